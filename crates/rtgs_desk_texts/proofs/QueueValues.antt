@@ -24,8 +24,9 @@ use Rattle.rtgs_book.specs.Ranges.{Fits}
 use Rattle.rtgs_book.specs.Soundness.{IsSound}
 use Rattle.rtgs_book.specs.declared.refusal.Refusal.{Refusal}
 use Rattle.rtgs_book.specs.declared.limits.TheConstants.{LONGEST_QUEUE}
-use Rattle.rtgs_desk.specs.Readings.{if_known, account_told, value_of}
+use Rattle.rtgs_desk.specs.Readings.{if_known, account_told, reading_of, readings_of, value_of}
 use Rattle.rtgs_desk.specs.declared.reading.AccountReading.{AccountReading}
+use Rattle.rtgs_desk_texts.specs.Accounts.{QueuedValuesFit}
 
 -- some of the orders pay at most the greatest amount each
 taken_bounded : (is_in : Order → Bool) (orders : List Order) → AllByRecursion (λ (o : Order). IsAmount o.amount) orders
@@ -70,24 +71,24 @@ queue_within book code =
     wider true b c f e = rw (f refl) e
     wider false b c f e = absurd (cc)
 
-queue_short : (book : Book) (code : List ℕ) (found : Participant) → IsSound book
-    → participant_of book code ≡ Some found → length (queue book code) ≤ LONGEST_QUEUE
+abbrev IsShort : Book → List ℕ → Type 0
+IsShort book code = length (waiting book code) ≤ LONGEST_QUEUE
+
+known_short : (book : Book) (code : List ℕ) (found : Participant) → IsSound book
+    → participant_of book code ≡ Some found → IsShort book code
 unfolding participant_of accounts
-queue_short book code found sound e =
-    let short = at_known (λ c. length (waiting book c) ≤ LONGEST_QUEUE) code book.participants found e
-    sound.queues.short in
-    omega (arith, queue_within book code, short)
+known_short book code found sound e = at_known (IsShort book) code book.participants found e sound.queues.short
 
 queue_bounded : (book : Book) (code : List ℕ) → Fits book
     → value_of (queue book code) ≤ Amount.MAX * length (queue book code)
 unfolding queue
 queue_bounded book code fits = taken_bounded _ book.orders fits.orders
 
-value_fits : (book : Book) (code : List ℕ) (found : Participant) → IsSound book → Fits book
-    → participant_of book code ≡ Some found → FitsSigned w64 (pos (value_of (queue book code)))
-value_fits book code found sound fits e =
+value_fits : (book : Book) (code : List ℕ) → Fits book → IsShort book code
+    → FitsSigned w64 (pos (value_of (queue book code)))
+value_fits book code fits short =
     fits_signed_from_abs w64 (pos (value_of (queue book code)))
-    (omega (arith, queue_bounded book code fits, queue_short book code found sound e))
+    (omega (arith, queue_bounded book code fits, queue_within book code, short))
 
 ok_is : (a b : AccountReading) (told : Result AccountReading Refusal) → told ≡ Ok a → told ≡ Ok b → a ≡ b
 ok_is a b told one other = cc
@@ -106,4 +107,15 @@ queued_fits book code reading sound fits told = by (participant_of book code) re
         })) ≡ Ok reading → FitsSigned w64 reading.queued_value
     by None e told = absurd (cc)
     by (Some found) e told = subst (FitsSigned w64) (ap (λ (r : AccountReading). r.queued_value)
-        (ok_is _ _ _ refl told)) (value_fits book code found sound fits e)
+        (ok_is _ _ _ refl told)) (value_fits book code fits (known_short book code found sound e))
+
+-- so it is with each participant
+each_fits : (book : Book) (participants : List Participant) → Fits book
+    → AllByRecursion (IsShort book) (map (λ (p : Participant). p.code) participants)
+    → QueuedValuesFit (map (λ (p : Participant). reading_of book p.code p) participants)
+each_fits book [] fits short = tt
+each_fits book (p ∷ ps) fits short = (value_fits book p.code fits short.0, each_fits book ps fits short.1)
+
+pub all_fit : (book : Book) → IsSound book → Fits book → QueuedValuesFit (readings_of book)
+unfolding accounts
+all_fit book sound fits = each_fits book book.participants fits sound.queues.short

@@ -1,7 +1,12 @@
--- The value that the body of a reply on an account spells. Keys stand in byte order.
-use Rattle.std.specs.Prelude.{ℕ, ℤ, List, Option, Some, None, codes}
-use Rattle.serde_json.specs.Data.{Data, string, object, Members, member, no_members}
+-- The values that the bodies of replies on accounts spell. Keys stand in byte order.
+use Rattle.std.specs.Prelude.{ℕ, ℤ, pos, int_lt, unsigned_abs, if◌then◌else◌, List, map, Option, Some, None, codes}
+use Rattle.std.specs.Prelude.{FitsSigned}
+use Rattle.std.specs.Int.{w64}
+use Rattle.std.specs.List.{AllByRecursion}
+use Rattle.serde_json.specs.Data.{Data, string, array, object, Members, member, no_members}
+use Rattle.serde_json.specs.View.{items_of}
 use Rattle.rtgs_money.specs.Date.{date_text}
+use Rattle.rtgs_book.specs.declared.day.Day.{Day}
 use Rattle.rtgs_book.specs.declared.phase.Phase.{Phase}
 use Rattle.rtgs_book.specs.declared.phase.Phase.TheVariants as phase
 use Rattle.rtgs_desk.specs.declared.reading.AccountReading.{AccountReading}
@@ -32,3 +37,31 @@ account_with value reading = object (member (codes "balance") (signed reading.ba
 -- what a participant is told of its account
 abbrev pub account_data : AccountReading → Data
 account_data reading = account_with reading.queued_value reading
+
+-- what an account must still get before the day can be closed: as much as its balance is below zero
+abbrev pub lacking : ℤ → ℕ
+lacking balance = if int_lt balance (pos 0) then unsigned_abs balance else 0
+
+-- one of all accounts, whose queue pays so much
+abbrev pub listed_with : ℤ → AccountReading → Data
+listed_with value reading = object (member (codes "balance") (signed reading.balance)
+    (member (codes "code") (string reading.participant.code) (member (codes "credit") (whole reading.participant.credit)
+    (member (codes "lacking") (whole (lacking reading.balance)) (member (codes "name") (string reading.participant.name)
+    (member (codes "queued") (whole reading.queued) (member (codes "queued_value") (signed value) no_members)))))))
+
+-- what the operator is told of one of all accounts
+abbrev pub listed : AccountReading → Data
+listed reading = listed_with reading.queued_value reading
+
+-- the phase of the day, after its date once there was one
+abbrev pub day_members : Day → Members
+day_members day = with_date day.date (member (codes "phase") (string (phase_name day.phase)) no_members)
+
+-- what the operator is told of all accounts on this day
+abbrev pub accounts_data : Day → List AccountReading → Data
+accounts_data day readings =
+    object (member (codes "accounts") (array (items_of (map listed readings))) (day_members day))
+
+-- 64 bits hold what each queue pays together
+abbrev pub QueuedValuesFit : List AccountReading → Type 0
+QueuedValuesFit readings = AllByRecursion (λ (reading : AccountReading). FitsSigned w64 reading.queued_value) readings

@@ -29,9 +29,16 @@ pub fn account_text(alloc: Global, reading: &AccountReading) -> Result<Vec<u8>, 
     ensures { FitsSigned w64 reading.now.queued_value
         → IfOk result (λ text. text.items ≡ compact_text (account_data reading.now)) }
 {
-    let queued_value = in_64_bits(reading.queued_value.cents());
+    let queued_value = queued_in_64_bits(reading);
     let value = account_value(alloc, reading, queued_value)?;
     value.to_vec(alloc)
+}
+
+/// What the orders of an account's queue pay together, in cents, where 64 bits hold it.
+pub(crate) fn queued_in_64_bits(reading: &AccountReading) -> i64
+    ensures { FitsSigned w64 reading.now.queued_value → result ≡ reading.now.queued_value }
+{
+    in_64_bits(reading.queued_value.cents())
 }
 
 // So many cents, where 64 bits hold them, and else the most that they hold.
@@ -111,8 +118,8 @@ fn undated_value(
     })
 }
 
-// The name of a phase.
-fn phase_name(phase: Phase) -> &'static str
+/// The name of a phase.
+pub(crate) fn phase_name(phase: Phase) -> &'static str
     ensures { result.now ≡ phase_name phase }
 {
     match phase {

@@ -5,14 +5,15 @@ ghost use Rattle.rtgs_book.specs.declared.Book.{Book};
 ghost use Rattle.rtgs_book.specs.declared.Refusal.{Refusal};
 ghost use Rattle.rtgs_book.specs.Lookup.{participant_of};
 ghost use Rattle.rtgs_desk.specs.Holding.{Holds, TellsFaults};
-ghost use Rattle.rtgs_desk.specs.Readings.{Tells, account_told, order_told, queue_told};
+ghost use Rattle.rtgs_desk.specs.Readings.{Tells, account_told, accounts_told, order_told, queue_told};
 ghost use Rattle.rtgs_http_bodies.specs.Readings.{order_data, queue_data};
-ghost use Rattle.rtgs_desk_texts.specs.Accounts.{account_data};
+ghost use Rattle.rtgs_desk_texts.specs.Accounts.{account_data, accounts_data};
 ghost use Rattle.rtgs_desk_texts.specs.Readings.{ReadingFails, json_line, text_wanted};
 ghost use Rattle.rtgs_desk_texts.specs.Written.{IsLost, LeavesBook, statement_wanted, report_wanted, refusal_of_text};
 
 use crate::account::account_text;
-use crate::laws::queued_values_fit;
+use crate::accounts::accounts_text;
+use crate::laws::{all_queued_values_fit, queued_values_fit};
 use crate::texts::{write_report, write_statement};
 use rtgs_book::{Reading, Refusal};
 use rtgs_desk::Desk;
@@ -42,6 +43,7 @@ pub fn text_of<K: Keeper>(
     match *reading {
         Reading::Order { sender, reference } => order_line(alloc, desk, &sender, &reference),
         Reading::Account { code } => account_line(alloc, desk, &code),
+        Reading::Accounts => accounts_line(alloc, desk),
         Reading::Queue { code } => queue_line(alloc, desk, &code),
         Reading::Statement { code, date } => statement_text(alloc, desk, &code, date),
         Reading::Report { date } => report_text(alloc, desk, date),
@@ -81,6 +83,21 @@ fn account_line<K: Keeper>(alloc: Global, desk: &Desk<K>, code: &Code) -> Result
     queued_values_fit();
     let account = desk.account(code)?;
     Ok(ended(account_text(alloc, &account)?)?)
+}
+
+// What is told of all accounts, as a line.
+fn accounts_line<K: Keeper>(alloc: Global, desk: &Desk<K>) -> Result<Vec<u8>, Refusal>
+    ensures told { (book : Book) → Holds K.Keeper desk.now book
+        → Tells (λ text. text.items) (json_line (accounts_data book.day) (accounts_told book)) result }
+    ensures failed { K.has_failed desk.now.keeper ≡ true → result ≡ Err Refusal.Failed }
+    ensures only_failed { result ≡ Err Refusal.Failed → K.has_failed desk.now.keeper ≡ true }
+    ensures no_fault { result ≢ Err Refusal.StoreFault }
+{
+    desk.holds_a_sound_book();
+    all_queued_values_fit();
+    let day = desk.day()?;
+    let accounts = desk.accounts()?;
+    Ok(ended(accounts_text(alloc, day, &accounts)?)?)
 }
 
 // What is told of a queue, as a line.

@@ -1,7 +1,7 @@
-use Rattle.std.proofs.Common.{◌≡◌, ◌∙◌, sym, subst, ap, arith, rules}
-use Rattle.std.specs.Int.{w64, w128}
+use Rattle.std.proofs.Common.{◌∙◌, sym, subst, ap}
+use Rattle.std.specs.Int.{w64}
 use Rattle.std.specs.Prelude.{FitsSigned}
-use Rattle.std.proofs.lemmas.Int.{ints, to_z-of_z}
+use Rattle.std.proofs.lemmas.Int.{to_z-of_z}
 use Rattle.std.proofs.lemmas.Result.{IfOk-weaker}
 use Rattle.serde_json.specs.Written.{compact_text}
 use Rattle.rtgs_desk_texts.specs.Accounts.{account_with}
@@ -10,11 +10,8 @@ use Rattle.rtgs_desk_texts.proofs.account.account_text.Goals as goal
 
 pub returns : goal.returns
 returns c fits =
-    let cents : c.cents.result ≡ c.args.reading.now.queued_value = search rules in
-    let small : FitsSigned w64 c.cents.result = subst (FitsSigned w64) (sym cents) fits in
-    let passed = to_z-of_z w128 c.cents.result (omega (arith, ints, small)) in
-    let same = c.in_64_bits-queued_value.ensures (subst (FitsSigned w64) (sym passed) small) ∙ passed ∙ cents in
-    let told = to_z-of_z w64 c.in_64_bits-queued_value.result (subst (FitsSigned w64) (sym same) fits) ∙ same in
+    let same = c.queued_in_64_bits-queued_value.ensures fits in
+    let told = to_z-of_z w64 c.queued_in_64_bits-queued_value.result (subst (FitsSigned w64) (sym same) fits) ∙ same in
     let value = c.in_ok-value.ensures ∙ ap (λ v. account_with v c.args.reading.now) told in
     IfOk-weaker c.to_vec.result _ _
     (λ text h. h (rw value (account_has_no_float c.args.reading.now.queued_value c.args.reading.now))
