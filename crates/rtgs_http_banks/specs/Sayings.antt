@@ -1,10 +1,11 @@
 -- The messages that tell what came of a request.
 use Rattle.std.specs.Prelude.{◌≡◌, ◌⊎◌, ℕ, List, Result, Ok, Err}
 use Rattle.rtgs_book.specs.declared.book.Book.{Book}
+use Rattle.rtgs_book.specs.declared.day.Day.{Day}
 use Rattle.rtgs_book.specs.declared.order.Order.{Order}
 use Rattle.rtgs_book.specs.declared.refusal.Refusal.{Refusal}
 use Rattle.rtgs_book.specs.Outcome.{Reply}
-use Rattle.rtgs_desk.specs.Readings.{account_told, queue_told, order_told}
+use Rattle.rtgs_desk.specs.Readings.{account_told, accounts_told, queue_told, order_told}
 use Rattle.rtgs_desk.specs.declared.reading.AccountReading.{AccountReading}
 use Rattle.rtgs_http_bodies.specs.Answers.{answer_data}
 use Rattle.rtgs_http_bodies.specs.Readings.{order_data, queue_data}
@@ -17,7 +18,7 @@ use Rattle.rtgs_http_requests.specs.declared.http_fault.HttpFault.{HttpFault}
 use Rattle.rtgs_http_requests.specs.declared.http_fault.HttpFault.TheVariants.{Batch}
 use Rattle.rtgs_book.specs.declared.reading.Reading.{Reading}
 use Rattle.rtgs_book.specs.declared.reading.Reading.TheVariants as reading
-use Rattle.rtgs_desk_texts.specs.Accounts.{account_data}
+use Rattle.rtgs_desk_texts.specs.Accounts.{account_data, accounts_data}
 use Rattle.rtgs_desk_texts.specs.Written.{statement_wanted, report_wanted}
 
 -- What is sent is this, or that there was no memory for it. No command was given.
@@ -49,6 +50,9 @@ order_message order = json_message 200 (order_data order)
 abbrev pub account_message : AccountReading → Message
 account_message account = json_message 200 (account_data account)
 
+abbrev pub accounts_message : Day → List AccountReading → Message
+accounts_message day accounts = json_message 200 (accounts_data day accounts)
+
 abbrev pub queue_message : List Order → Message
 queue_message orders = json_message 200 (queue_data orders)
 
@@ -59,6 +63,7 @@ text_message text = message 200 Plain text
 abbrev pub reading_message : Book → Reading → Message
 reading_message book (reading.Order sender reference) = told_message order_message (order_told book sender reference)
 reading_message book (reading.Account code) = told_message account_message (account_told book code)
+reading_message book reading.Accounts = told_message (accounts_message book.day) (accounts_told book)
 reading_message book (reading.Queue code) = told_message queue_message (queue_told book code)
 reading_message book (reading.Statement code date) = told_message text_message (statement_wanted book code date)
 reading_message book (reading.Report date) = told_message text_message (report_wanted book date)

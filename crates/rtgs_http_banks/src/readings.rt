@@ -1,18 +1,18 @@
 //! Readings, and what is replied to them.
 ghost use Rattle.rtgs_book.specs.declared.Book.{Book};
 ghost use Rattle.rtgs_desk.specs.Holding.{Holds};
-ghost use Rattle.rtgs_desk.specs.Readings.{account_told, queue_told, order_told};
+ghost use Rattle.rtgs_desk.specs.Readings.{account_told, accounts_told, queue_told, order_told};
 ghost use Rattle.rtgs_desk_texts.specs.Written.{statement_wanted, report_wanted};
 ghost use Rattle.rtgs_desk_texts.specs.Written.{StillHolds};
 ghost use Rattle.rtgs_http_banks.specs.Dealings.{Reads, IsReadOf};
 ghost use Rattle.rtgs_http_banks.specs.Sayings.{IsSaid, told_message, order_message, account_message, queue_message};
-ghost use Rattle.rtgs_http_banks.specs.Sayings.{text_message};
+ghost use Rattle.rtgs_http_banks.specs.Sayings.{accounts_message, text_message};
 
 use crate::faults::refused;
 use rtgs_book::Reading;
 use rtgs_desk::Desk;
-use rtgs_desk_texts::laws::queued_values_fit;
-use rtgs_desk_texts::{account_reply, report_text, statement_text};
+use rtgs_desk_texts::laws::{all_queued_values_fit, queued_values_fit};
+use rtgs_desk_texts::{account_reply, accounts_reply, report_text, statement_text};
 use rtgs_http_bodies::{order_reply, queue_reply, text_reply};
 use rtgs_http_replies::Reply;
 use rtgs_keeper::Keeper;
@@ -30,6 +30,7 @@ pub(crate) fn read<K: Keeper>(alloc: Global, desk: &mut Desk<K>, reading: Readin
     match reading {
         Reading::Order { sender, reference } => read_order(alloc, desk, &sender, &reference),
         Reading::Account { code } => read_account(alloc, desk, &code),
+        Reading::Accounts => read_accounts(alloc, desk),
         Reading::Queue { code } => read_queue(alloc, desk, &code),
         Reading::Statement { code, date } => read_statement(alloc, desk, &code, date),
         Reading::Report { date } => read_report(alloc, desk, date),
@@ -78,6 +79,27 @@ fn read_account<K: Keeper>(alloc: Global, desk: &Desk<K>, code: &Code) -> Reply
         Err(refusal) => return refused(alloc, refusal),
     };
     match account_reply(alloc, &account) {
+        Ok(reply) => reply,
+        Err(_) => Reply::out_of_memory(),
+    }
+}
+
+// The accounts of all participants.
+fn read_accounts<K: Keeper>(alloc: Global, desk: &Desk<K>) -> Reply
+    ensures { (book : Book) → Holds K.Keeper desk.now book
+        → IsSaid (told_message (accounts_message book.day) (accounts_told book)) result }
+{
+    desk.holds_a_sound_book();
+    all_queued_values_fit();
+    let day = match desk.day() {
+        Ok(day) => day,
+        Err(refusal) => return refused(alloc, refusal),
+    };
+    let accounts = match desk.accounts() {
+        Ok(accounts) => accounts,
+        Err(refusal) => return refused(alloc, refusal),
+    };
+    match accounts_reply(alloc, day, &accounts) {
         Ok(reply) => reply,
         Err(_) => Reply::out_of_memory(),
     }

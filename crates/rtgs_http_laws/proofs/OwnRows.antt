@@ -148,6 +148,7 @@ pub own_rows : (one other : Book) (code : List ℕ) (read : Reading) → IsReadi
 own_rows one other code (reading.Order sender reference) is agree =
     rw (is, order_alike one other code reference agree) refl
 own_rows one other code (reading.Account owner) is agree = rw (is, account_alike one other code agree) refl
+own_rows one other code reading.Accounts is agree = absurd is
 own_rows one other code (reading.Queue owner) is agree = rw (is, waiting_alike one other code agree) refl
 own_rows one other code (reading.Statement owner date) is agree =
     rw (is, statement_alike one other code date agree) refl
