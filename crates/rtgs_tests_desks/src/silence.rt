@@ -18,6 +18,8 @@ pub fn is_silent<K: Keeper>(desk: &mut Desk<K>) -> Result<(), Fail> {
     let is_silent = desk.failed()
         & is_failed(desk.submit(Command::Resolve))
         & is_failed(desk.account(&alfa))
+        & is_failed(desk.accounts())
+        & is_failed(desk.day())
         & is_failed(desk.queue_of(&alfa))
         & is_failed(desk.order_of(&alfa, &name))
         & is_failed(desk.code_of(&key))

@@ -23,6 +23,15 @@ fn account(rt: HostRuntime) -> Result<(), Fail> {
 }
 
 #[test]
+fn accounts(rt: HostRuntime) -> Result<(), Fail> {
+    tries(
+        &rt,
+        "tests::in_memory::readings::accounts",
+        Reading::Accounts,
+    )
+}
+
+#[test]
 fn queue_of(rt: HostRuntime) -> Result<(), Fail> {
     let reading = Reading::Queue {
         code: code("ALFA")?,

@@ -1,4 +1,4 @@
-//! Readings that look into the tables.
+//! Readings over tables: those that look into them, and that of all accounts, which asks for memory alone.
 use super::super::scarce::setting::{MONDAY, code, date, reference};
 use super::super::scarce::{Asks, Question, for_each_refusal};
 use super::over_sql::{BLOCKS, OverSql};
@@ -12,6 +12,15 @@ fn tries(rt: &HostRuntime, name: &str, reading: Reading) -> Result<(), Fail> {
         question: Question::Reading(reading),
     };
     for_each_refusal(rt, name, &asks, BLOCKS)
+}
+
+#[test]
+fn accounts(rt: HostRuntime) -> Result<(), Fail> {
+    tries(
+        &rt,
+        "tests::over_tables::readings::accounts",
+        Reading::Accounts,
+    )
 }
 
 #[test]

@@ -23,6 +23,7 @@ pub enum Question {
 #[derive(Debug, Drop)]
 pub enum Told {
     Account(Result<AccountReading, Refusal>),
+    Accounts(Result<Vec<AccountReading>, Refusal>),
     Queue(Result<Vec<Order>, Refusal>),
     Order(Result<Order, Refusal>),
     Text(Result<(), BookTextFault>, Page),
@@ -34,6 +35,7 @@ impl Told {
     fn refusal(&self) -> Option<Refusal> {
         match self {
             Told::Account(Err(refusal))
+            | Told::Accounts(Err(refusal))
             | Told::Queue(Err(refusal))
             | Told::Order(Err(refusal))
             | Told::Text(Err(BookTextFault::Refused(refusal)), _)
@@ -95,6 +97,7 @@ fn answered<K: Keeper>(alloc: Global, desk: &mut Desk<K>, reading: Reading) -> T
     let mut page = Page::new();
     match reading {
         Reading::Account { code } => Told::Account(desk.account(&code)),
+        Reading::Accounts => Told::Accounts(desk.accounts()),
         Reading::Queue { code } => Told::Queue(desk.queue_of(&code)),
         Reading::Order { sender, reference } => Told::Order(desk.order_of(&sender, &reference)),
         Reading::Statement { code, date } => {

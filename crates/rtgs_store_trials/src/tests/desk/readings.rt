@@ -1,4 +1,5 @@
 //! What a desk tells of its book.
+use super::super::scripts::desks::desk_follows;
 use super::super::setting::{MONDAY, code, date, desk_over, kept, order, participant};
 use rtgs_book::{Day, Order, OrderState, Phase, Refusal, RowChange};
 use rtgs_desk::{AccountReading, Desk};
@@ -59,6 +60,36 @@ fn an_account_is_told_with_its_queue(rt: HostRuntime) -> Result<(), Fail> {
     let accounts = [desk.account(&told.participant.code), desk.account(&unknown)];
     assert_eq!(rt; accounts, [Ok(told), Err(Refusal::UnknownParticipant)]);
     Ok(())
+}
+
+// ABLE is added last, and comes first. ALFA is below 0 within its limit, and two of its orders wait.
+const BELOW_ZERO: &str = "
+accounts => [ALFA 0 0 0 0.00][BETA 0 0 0 0.00][GAMA 0 0 0 0.00]
+add ABLE 0000000000000000000000000000000d => Added
+credit ALFA 100 => CreditSet
+open 2024-03-04 => Opened
+order ALFA O-1 BETA 60 => Settled { number: 1, mark: 1 }
+order ALFA O-2 BETA 50 => Queued { number: 2, place: 1 }
+order ALFA O-3 BETA 7 => Queued { number: 3, place: 2 }
+accounts => [ABLE 0 0 0 0.00][ALFA -60 100 2 0.57][BETA 60 0 0 0.00][GAMA 0 0 0 0.00]
+";
+
+#[test]
+fn all_accounts_are_told_in_their_order(rt: HostRuntime) -> Result<(), Fail> {
+    desk_follows(&rt, BELOW_ZERO)
+}
+
+const DAYS: &str = "
+day => Day { date: None, phase: Closed, automatic: false }
+open 2024-03-04 automatic => Opened
+day => Day { date: Some(BusinessDate { number: 20240304 }), phase: Open, automatic: true }
+cutoff 2024-03-04 => CutOffDone
+day => Day { date: Some(BusinessDate { number: 20240304 }), phase: CutOff, automatic: true }
+";
+
+#[test]
+fn the_day_is_told(rt: HostRuntime) -> Result<(), Fail> {
+    desk_follows(&rt, DAYS)
 }
 
 // Whether the desk tells these orders as the sender's queue.

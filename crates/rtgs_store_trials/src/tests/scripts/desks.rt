@@ -2,7 +2,7 @@
 use super::super::setting::{code, desk_over};
 use super::records::{mark_if_any, order_if_any, posting_if_any};
 use super::{Answers, command_of, day_of, follows, reply_text, words_of};
-use rtgs_desk::Desk;
+use rtgs_desk::{AccountReading, Desk};
 use rtgs_keeper::Keeper;
 use rtgs_memory_keeper::MemoryKeeper;
 use rtgs_statements::Source;
@@ -21,6 +21,8 @@ impl<K: Keeper> Answers for Desk<K> {
         let words = words_of(alloc, asked)?;
         match words.as_slice() {
             ["account", participant] => account_text(alloc, self, participant),
+            ["accounts"] => accounts_text(alloc, self),
+            ["day"] => day_text(alloc, self),
             ["next-posting", day, after] => next_posting_text(alloc, self, day, after),
             ["next-order", day, after] => next_order_text(alloc, self, day, after),
             ["next-mark", day, after] => next_mark_text(alloc, self, day, after),
@@ -60,6 +62,37 @@ fn account_text<K: Keeper>(
         }
         Err(refusal) => Ok(format!(in alloc; "refused: {refusal:?}")?),
     }
+}
+
+/// All accounts, in their order. Each is told as the account of its code is.
+fn accounts_text<K: Keeper>(alloc: Global, desk: &Desk<K>) -> Result<String, Fail> {
+    let mut text = String::new(alloc);
+    let accounts = desk.accounts()?;
+    for account in accounts.as_slice() {
+        if desk.account(&account.participant.code)? != *account {
+            return Err(Fail::from("an account is told in two ways"));
+        }
+        let listed = listed_text(alloc, account)?;
+        text.push_str(listed.as_str())?;
+    }
+    Ok(text)
+}
+
+/// The code, the balance, the credit limit, how many orders are queued, and what they pay.
+fn listed_text(alloc: Global, account: &AccountReading) -> Result<String, Fail> {
+    let (code, credit) = (account.participant.code, account.participant.credit.cents());
+    let (cents, queued, value) = (
+        account.balance.cents(),
+        account.queued,
+        account.queued_value,
+    );
+    Ok(format!(in alloc; "[{code} {cents} {credit} {queued} {value}]")?)
+}
+
+/// The business day.
+fn day_text<K: Keeper>(alloc: Global, desk: &Desk<K>) -> Result<String, Fail> {
+    let day = desk.day()?;
+    Ok(format!(in alloc; "{day:?}")?)
 }
 
 /// The date's first posting after this number.
