@@ -69,6 +69,10 @@ $ names account --help
 = Shows a participant's account, as JSON
 = Usage: desk account <FILE> <CODE>
 status 0 helped
+$ names accounts --help
+= Shows the accounts of all participants, as JSON
+= Usage: desk accounts <FILE>
+status 0 helped
 $ names queue --help
 = Shows a participant's queued orders, as JSON
 = Usage: desk queue <FILE> <CODE>

@@ -1,6 +1,6 @@
 //! What the desk tells of accounts, queues and orders, as JSON, and withdrawals.
 use super::imports::DAY;
-use super::script::follows_both;
+use super::script::{follows, follows_both};
 use std::test::Fail;
 
 const TOLD: &str = "
@@ -43,6 +43,68 @@ status 1
 #[test]
 fn accounts_queues_and_orders_are_told_as_json(rt: HostRuntime) -> Result<(), Fail> {
     follows_both(&rt, "told", DAY, TOLD)
+}
+
+/// The accounts of a new book: nobody's, and then those of two participants before the first day.
+const BEFORE_A_DAY: &str = "
+$ desk init @
+> initialised
+$ desk accounts @
+> {\"accounts\":[],\"phase\":\"CLOSED\"}
+$ desk add @ GAMA 'Gama Bank' 0000000000000000000000000000000c
+> added
+$ desk add @ ALFA 'Alfa Bank' 0000000000000000000000000000000a
+> added
+$ desk post @ GAMA P-1 7
+> posted 1
+$ desk accounts @
+> {\"accounts\":[{\"balance\":0,\"code\":\"ALFA\",\"credit\":0,\"lacking\":0,\"name\":\"Alfa Bank\",\
+   \"queued\":0,\"queued_value\":0},{\"balance\":7,\"code\":\"GAMA\",\"credit\":0,\"lacking\":0,\
+   \"name\":\"Gama Bank\",\"queued\":0,\"queued_value\":0}],\"phase\":\"CLOSED\"}
+";
+
+#[test]
+fn accounts_of_a_new_book_have_no_date(rt: HostRuntime) -> Result<(), Fail> {
+    follows(&rt, "before", BEFORE_A_DAY)
+}
+
+/// ALFA pays by its credit, and what its queue lacks cover for waits. What it lacks is posted, and then the day can be
+/// closed.
+const OVERDRAWN: &str = "
+$ desk credit @ ALFA 500
+> credit set
+$ orders drawn.csv A-1,GAMA,450 A-2,BETA,900 A-3,GAMA,20
+$ desk import @ ALFA drawn.csv
+> reference,result,number,detail
+> A-1,settled,1,1
+> A-2,queued,2,1
+> A-3,queued,3,2
+$ desk accounts @
+> {\"accounts\":[{\"balance\":-300,\"code\":\"ALFA\",\"credit\":500,\"lacking\":300,\"name\":\"A Bank\",\
+   \"queued\":2,\"queued_value\":920},{\"balance\":0,\"code\":\"BETA\",\"credit\":0,\"lacking\":0,\
+   \"name\":\"A Bank\",\"queued\":0,\"queued_value\":0},{\"balance\":450,\"code\":\"GAMA\",\"credit\":0,\
+   \"lacking\":0,\"name\":\"A Bank\",\"queued\":0,\"queued_value\":0}],\"date\":\"2024-03-04\",\
+   \"phase\":\"OPEN\"}
+$ desk cutoff @ 2024-03-04
+> cut off
+$ desk close @ 2024-03-04
+! refused 19 Overdrawn ALFA 1
+status 1
+$ desk post @ ALFA P-2 300
+> posted 2
+$ desk close @ 2024-03-04
+> closed rejected 2
+$ desk accounts @
+> {\"accounts\":[{\"balance\":0,\"code\":\"ALFA\",\"credit\":500,\"lacking\":0,\"name\":\"A Bank\",\
+   \"queued\":0,\"queued_value\":0},{\"balance\":0,\"code\":\"BETA\",\"credit\":0,\"lacking\":0,\
+   \"name\":\"A Bank\",\"queued\":0,\"queued_value\":0},{\"balance\":450,\"code\":\"GAMA\",\"credit\":0,\
+   \"lacking\":0,\"name\":\"A Bank\",\"queued\":0,\"queued_value\":0}],\"date\":\"2024-03-04\",\
+   \"phase\":\"CLOSED\"}
+";
+
+#[test]
+fn accounts_tell_what_each_lacks_for_the_close(rt: HostRuntime) -> Result<(), Fail> {
+    follows_both(&rt, "drawn", DAY, OVERDRAWN)
 }
 
 /// A statement is its first line, a posting, and the four sums. Each posting more is a write more. A report is one
