@@ -95,6 +95,9 @@ OPERATOR POST /desk/resolve {}
 
 OPERATOR GET /desk/report/2024-03-04
 -> read report 2024-03-04
+
+OPERATOR GET /desk/accounts
+-> read accounts
 "#;
 
 #[test]

@@ -45,6 +45,12 @@ ALFA GET /orders/A-1/withdraw
 ALFA GET /desk/report
 -> 404 67 NoSuchRoute
 
+OPERATOR GET /desk/accounts/
+-> 404 67 NoSuchRoute
+
+OPERATOR GET /desk/accounts/ALFA
+-> 404 67 NoSuchRoute
+
 ALFA GET /statements/
 -> 404 67 NoSuchRoute
 "#;
@@ -68,6 +74,9 @@ ALFA POST /desk {}
 -> 404 67 NoSuchRoute
 
 ALFA POST /batches/ {}
+-> 404 67 NoSuchRoute
+
+OPERATOR POST /desk/accounts {}
 -> 404 67 NoSuchRoute
 "#;
 

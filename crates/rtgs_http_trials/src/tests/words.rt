@@ -56,6 +56,7 @@ fn reading_words(alloc: Global, reading: &Reading) -> Result<String, AllocError>
             format!(in alloc; "read order {sender} {reference}")
         }
         Reading::Account { code } => format!(in alloc; "read account {code}"),
+        Reading::Accounts => String::from_str(alloc, "read accounts"),
         Reading::Queue { code } => format!(in alloc; "read queue {code}"),
         Reading::Statement { code, date } => format!(in alloc; "read statement {code} {date}"),
         Reading::Report { date } => format!(in alloc; "read report {date}"),

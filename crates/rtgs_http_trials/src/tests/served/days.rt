@@ -56,6 +56,12 @@ held               0                           0.00
 withdrawn          0                           0.00
 rejected           0                           0.00
 marks              1
+
+OPERATOR GET /desk/accounts
+-> 200 OK {"accounts":[{"balance":-100,"code":"ALFA","credit":100,"lacking":100,"name":"Alfa Bank","queued":1,
+"queued_value":1},{"balance":100,"code":"BETA","credit":0,"lacking":0,"name":"Beta Bank","queued":0,"queued_value":0},
+{"balance":0,"code":"GAMA","credit":0,"lacking":0,"name":"Gama Bank","queued":0,"queued_value":0}],
+"date":"2024-03-04","phase":"OPEN"}
 "#;
 
 #[test]
@@ -141,6 +147,12 @@ OPERATOR POST /desk/close {"date":"2024-03-04"}
 ALFA GET /account
 -> 200 OK {"balance":-100,"code":"ALFA","credit":100,"date":"2024-03-04","name":"Alfa Bank","phase":"CUTOFF",
 "queued":1,"queued_value":1}
+
+OPERATOR GET /desk/accounts
+-> 200 OK {"accounts":[{"balance":-100,"code":"ALFA","credit":100,"lacking":100,"name":"Alfa Bank","queued":1,
+"queued_value":1},{"balance":100,"code":"BETA","credit":0,"lacking":0,"name":"Beta Bank","queued":0,"queued_value":0},
+{"balance":0,"code":"GAMA","credit":0,"lacking":0,"name":"Gama Bank","queued":0,"queued_value":0}],
+"date":"2024-03-04","phase":"CUTOFF"}
 "#;
 
 #[test]

@@ -19,6 +19,8 @@ POST /desk/cutoff {"date":"2024-03-04"}
 POST /desk/close {"date":"2024-03-04"}
 
 GET /desk/report/2024-03-04
+
+GET /desk/accounts
 "#;
 
 // The banks' routes, each with a good body.

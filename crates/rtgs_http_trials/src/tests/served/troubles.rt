@@ -22,6 +22,8 @@ ALFA GET /queue
 ALFA GET /statements/2024-03-04
 
 OPERATOR GET /desk/report/2024-03-04
+
+OPERATOR GET /desk/accounts
 ";
 
 // Commands of each route but that of batches, each of which changes something. The last ones are of an automatic day.
