@@ -88,6 +88,15 @@ fn one_that_is_not_accepted_counts_as_served(rt: HostRuntime) -> Result<(), Fail
 }
 
 #[test]
+fn each_of_forty_is_served(rt: HostRuntime) -> Result<(), Fail> {
+    let mut desk = TestDesk::open(rt.alloc())?;
+    let inputs = [Some(GOOD.as_bytes()); 40];
+    let told = ["HTTP/1.1 200 OK\r\n"; 40];
+    assert!(rt; serves(rt.alloc(), &mut desk, &inputs, 40, 0, &told));
+    Ok(())
+}
+
+#[test]
 fn none_is_served_once_the_desk_has_failed(rt: HostRuntime) -> Result<(), Fail> {
     // the order is looked up, and then kept
     let mut desk = TestDesk::troubled(rt.alloc(), 1, Trouble::Lost)?;

@@ -113,8 +113,18 @@ fn is_completed<K: Keeper>(
     same(alloc, seen_of(alloc, desk)?.as_str(), once)
 }
 
-// How many rows are answered with so many small blocks of memory. Where the next one is refused, what is told then, and
-// when the rows are sent again, is as it should be.
+// What is seen of a desk that was sent these rows.
+fn seen_after<S: Store>(alloc: Global, store: &S, rows: &[OrderRow]) -> Result<String, Fail>
+where
+    S::Kept: Keeper + Drop,
+{
+    let mut desk = orders_desk(alloc, store.keeper(alloc)?)?;
+    submit_batch(alloc, &mut desk, code("ALFA")?, rows)?;
+    seen_of(alloc, &mut desk)
+}
+
+// How many rows are answered with so many small blocks of memory. Where the next one is refused, what is told and seen
+// then, and when the rows are sent again, is as it should be.
 fn answered<S: Store>(
     alloc: Global,
     store: &S,
@@ -135,6 +145,9 @@ where
     }
     let refused = FIRST.saturating_add(count as u64);
     has_file(alloc, rows, &batch, results_to(alloc, refused)?.as_str())?;
+    let done = rows.get(..count).ok_or("so many rows")?;
+    let wanted = seen_after(alloc, store, done)?;
+    same(alloc, seen_of(alloc, &mut desk)?.as_str(), wanted.as_str())?;
     is_completed(alloc, &mut desk, rows, refused, once)?;
     Ok(count)
 }

@@ -92,8 +92,7 @@ where
     seen_of(alloc, &mut desk)
 }
 
-// What may be seen after a batch that stopped: the rows that are answered are done, and where the store failed the next
-// one may be too.
+// What is seen after a batch that stopped: the rows that are answered are done, and no others.
 fn parts_of<S: Store>(
     alloc: Global,
     sends: &Sends<'_, S>,
@@ -103,11 +102,7 @@ where
     S::Kept: Keeper + Drop,
 {
     let count = batch.replies.len();
-    let mut parts = vec![in alloc; seen_after(alloc, sends, count)?]?;
-    if matches!(batch.stopped, Some(Refusal::StoreFault)) {
-        parts.push(seen_after(alloc, sends, count.saturating_add(1))?)?;
-    }
-    Ok(parts)
+    Ok(vec![in alloc; seen_after(alloc, sends, count)?]?)
 }
 
 // What a batch came to that stopped.
@@ -118,7 +113,7 @@ fn outcome_of(batch: &BatchResult, may_fail: bool) -> Outcome {
     match batch.stopped {
         Some(Refusal::OutOfMemory) if batch.replies.is_empty() => Outcome::Refused,
         Some(Refusal::OutOfMemory) => Outcome::Stopped,
-        Some(Refusal::StoreFault) if may_fail => Outcome::Stopped,
+        Some(Refusal::StoreFault) if may_fail => Outcome::Faulted,
         _ => Outcome::Other,
     }
 }

@@ -230,6 +230,21 @@ fn a_book_at_its_limits_is_resolved_and_closed(rt: HostRuntime) -> Result<(), Fa
     Ok(())
 }
 
+#[test]
+fn a_close_rejects_49500_orders(rt: HostRuntime) -> Result<(), Fail> {
+    let wanted = [
+        alone(Answer::CutOffDone),
+        alone(Answer::Closed { rejected: 49_500 }),
+        alone(Answer::Repeated(Known::Nothing)),
+    ];
+    let close = Command::CloseDay(date(MONDAY)?);
+    let commands = [Command::CutOff(date(MONDAY)?), close, close];
+    let keeper = new_keeper(rt.alloc())?;
+    let replies = replies_over(rt.alloc(), keeper, (OPEN, false), &commands)?;
+    assert_eq!(rt; replies.as_slice(), wanted.as_slice());
+    Ok(())
+}
+
 /// The order of 500 cents that closes the open ring.
 fn closing(alloc: Global) -> Result<Command, Fail> {
     let due: Option<BusinessDate> = None;
