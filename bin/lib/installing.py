@@ -1,15 +1,17 @@
 """What bin/install puts where: the program, and all that goes with it."""
+import hashlib
 import os
 import tempfile
 
 import kit
-from lib import completions, desks, helps, manual
+from lib import completions, desks, evidence, helps, manual
 
 DEPLOY = f"{kit.TOP}/deploy"
 HANDBOOKS = ("OPERATORS.md", "BANKS.md", "AUDITORS.md", "SPECIFICATION.md", "openapi.yaml")
 CLIENTS = f"{kit.TOP}/bin/lib/clients"
 DOC, SHARED = "share/doc/desk", "share/desk"
 UNIT, PROGRAM, PAGE = "lib/systemd/system/desk.service", "bin/desk", "share/man/man1/desk.1"
+ORIGIN = f"{SHARED}/origin.txt"
 # a file for each shell, and what makes it
 SHELLS = {
     "share/bash-completion/completions/desk": completions.bash,
@@ -36,11 +38,18 @@ def copied(folder, names, below):
     return {f"{below}/{it}": read(f"{folder}/{it}") for it in names}
 
 
+def origin(program):
+    """Returns what an auditor builds again to compare a program: the commit, the kit, and the digest of its bytes."""
+    said = {"commit": evidence.commit(), "kit": kit.version(), "sha256": hashlib.sha256(program).hexdigest()}
+    return "".join(f"{name} {it}\n" for name, it in said.items())
+
+
 def files(prefix, run):
     """Returns what is installed: for each path below the prefix its bytes and its mode. The call runs the program."""
-    program = helps.program(run)
+    program, built = helps.program(run), desks.content(desks.DESK)
     texts = {
         PAGE: manual.made(program, f"{prefix}/{DOC}"),
+        ORIGIN: origin(built),
         UNIT: with_prefix(read(f"{DEPLOY}/desk.service"), prefix),
         **{path: make("desk", program) for path, make in SHELLS.items()},
         **copied(DEPLOY, ("nginx.conf", "Caddyfile"), SHARED),
@@ -48,7 +57,7 @@ def files(prefix, run):
         **copied(kit.TOP, ("CHANGELOG.md",), DOC),
         **copied(CLIENTS, os.listdir(CLIENTS), f"{DOC}/clients"),
     }
-    found = {PROGRAM: (desks.content(desks.DESK), AS_PROGRAM)}
+    found = {PROGRAM: (built, AS_PROGRAM)}
     return found | {path: (text.encode(), AS_TEXT) for path, text in texts.items()}
 
 

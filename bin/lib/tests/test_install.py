@@ -1,4 +1,5 @@
 """What is installed beside the program, made from help texts that stand in for the program's own."""
+import hashlib
 import os
 import re
 import shutil
@@ -8,7 +9,7 @@ import unittest
 from unittest import mock
 
 import kit
-from lib import completions, desks, helps, installing, manual, stated
+from lib import completions, desks, evidence, helps, installing, manual, stated
 from lib.checks import install
 
 WHOLE = """\
@@ -194,6 +195,13 @@ class Installing(unittest.TestCase):
             self.installed()
             self.assertEqual(kept.read(), "the program")
         self.assertEqual(desks.content(f"{self.prefix}/bin/desk"), b"a new one")
+
+    def test_the_origin_has_the_digest_of_the_program_that_is_installed(self):
+        self.installed()
+        with open(f"{self.prefix}/bin/desk", "rb") as it:
+            digest = hashlib.sha256(it.read()).hexdigest()
+        said = desks.content(f"{self.prefix}/{installing.ORIGIN}").decode().splitlines()
+        self.assertEqual(said, [f"commit {evidence.commit()}", f"kit {kit.version()}", f"sha256 {digest}"])
 
     def test_the_unit_has_the_prefix_and_one_that_it_cannot_have_is_refused(self):
         self.installed()
