@@ -95,7 +95,8 @@ RUNS = [
     *[f"add @ BANK{it} Bank {it:032x} => added" for it in range(97)],
     f"add @ ZETA Zeta {D} => !12",
 ]
-READINGS = ["account @ ALFA", "queue @ ALFA", "order @ ALFA A-1", "statement @ ALFA 2024-03-04", "report @ 2024-03-04"]
+READINGS = ["account @ ALFA", "accounts @", "queue @ ALFA", "order @ ALFA A-1", "statement @ ALFA 2024-03-04",
+            "report @ 2024-03-04"]
 # every command, in words that are well formed
 EACH = [*migrations.OTHERS, "migrate @", "init @"]
 MISUSED = ["", "pay @", "init", "init @ @", "post @ ALFA P-9", "init --unknown", SERVE.format(0)]
