@@ -44,7 +44,7 @@ use std::io::{Read, Write};
 /// the book and the request's bytes, whole or a beginning of it; the commands that were given are those that these
 /// bytes ask for, and the bearer of the key may give them; and the stop that comes then leaves what promise 1 says.
 /// Where the reader fails, nothing was done. So it is with whatever a crash leaves where no desk opens again.
-// To judge it, read these 85 files, 527 definitions: rtgs_promises Headline, Keys; rtgs_desk Holding, Seen, Replies,
+// To judge it, read these 85 files, 536 definitions: rtgs_promises Headline, Keys; rtgs_desk Holding, Seen, Replies,
 // Readings; rtgs_http_banks Serving, Exchange, Dealings, Sayings; rtgs_rows Content, Keeping, Fitting, Tables, Dues,
 // Rows; rtgs_book Calm, Soundness, Session, Run, Laws, Ranges, Procedure, Refusals, Standings; rtgs_http_replies
 // Messages, Kinds, Texts, Bodies; rtgs_output Sent; the ten of a command; rtgs_cores Cores; rtgs_http_input Input;
@@ -86,7 +86,7 @@ pub fn serve_and_stop<R: Read, W: Write, S: Alter + Reopen + Drop>(
 
 /// **Promise 12. A request has one meaning.** What it asks for and its reply are a function of the book and the
 /// request's bytes. Set aside is lack of memory, and for the reply a fault of the store: the status is then 503.
-// To judge it, read these 75 files, 451 definitions: rtgs_desk Seen, Holding, Replies, Readings; rtgs_http_replies
+// To judge it, read these 75 files, 460 definitions: rtgs_desk Seen, Holding, Replies, Readings; rtgs_http_replies
 // Messages, Kinds, Texts, Bodies; rtgs_http_banks Exchange, Dealings, Sayings; rtgs_http_requests Same, Exchange,
 // Meaning, Callers, Steps, Bodies, Access, Faults, Contents; rtgs_http_laws Alike; rtgs_ledger Keys, Kept;
 // rtgs_http_heads Targets, Heads, Fields, Tables; rtgs_desk_texts Written, Accounts; the ten of a command; rtgs_book
@@ -110,7 +110,7 @@ pub fn a_book_and_an_input_have_one_reply<K: Keeper>()
 /// **Promise 13. Nobody acts but with his own key.** The commands of a request are those of the operator's key, or
 /// orders and withdrawals of the participant whose key the input bears. Whatever a desk holds, a request changes it
 /// only for what the bearer of a key may ask.
-// To judge it, read these 76 files, 456 definitions: rtgs_promises Keys; rtgs_desk Seen, Holding, Replies, Readings;
+// To judge it, read these 76 files, 465 definitions: rtgs_promises Keys; rtgs_desk Seen, Holding, Replies, Readings;
 // rtgs_http_replies Messages, Kinds, Texts, Bodies; rtgs_http_banks Exchange, Dealings, Sayings; rtgs_http_requests
 // Access, Exchange, Callers, Meaning, Steps, Bodies, Faults, Plans, Contents; rtgs_ledger Keys, Kept; rtgs_batches
 // Batches, Sent; rtgs_http_feeds Region; rtgs_http_heads Heads, Fields, Targets, Tables; rtgs_desk_texts Written,
@@ -129,7 +129,7 @@ pub fn nobody_acts_with_the_key_of_another<K: Keeper>()
 
 /// **Promise 13. And nobody reads the rows of others.** Two books that agree in a participant's own rows give the same
 /// reply to each reading that bears its key. Set aside are replies with the status 503.
-// To judge it, read these 74 files, 452 definitions: rtgs_desk Seen, Holding, Replies, Readings; rtgs_http_replies
+// To judge it, read these 74 files, 461 definitions: rtgs_desk Seen, Holding, Replies, Readings; rtgs_http_replies
 // Messages, Kinds, Texts, Bodies; rtgs_http_laws Own; rtgs_http_requests Exchange, Access, Callers, Meaning, Steps,
 // Bodies, Faults, Contents; rtgs_ledger Keys, Kept; rtgs_http_banks Exchange, Dealings, Sayings; the ten of a command;
 // rtgs_http_heads Targets, Heads, Fields, Tables; rtgs_http_feeds Region; rtgs_desk_texts Written, Accounts; rtgs_money
