@@ -3,6 +3,10 @@ use Rattle.std.specs.Prelude.{◌≡◌, ◌<◌, ◌^◌, ℕ, Bool, true, fals
 use Rattle.std.specs.Borrow.{Bor}
 use Rattle.std.specs.Str.Parse.{IsNumeral, digits_value, without_leading_plus}
 use Rattle.clap.specs.Words.{Row, Text, first_of, one_of}
+use Rattle.rtgs_refusals.specs.Table.{entry_of}
+use Rattle.rtgs_refusals.specs.declared.refusal_kind.RefusalKind.{RefusalKind}
+use Rattle.rtgs_desk_arguments.specs.declared.asked.Asked.{Asked}
+use Rattle.rtgs_desk_arguments.specs.declared.asked.Asked.TheVariants.{Run, Refusals}
 use Rattle.rtgs_desk_requests.specs.declared.command_words.CommandWords.{CommandWords}
 use Rattle.rtgs_desk_requests.specs.declared.command_words.CommandWords.TheVariants.{Add, Credit, Post, Open, Resolve}
 use Rattle.rtgs_desk_requests.specs.declared.command_words.CommandWords.TheVariants.{CutOff, Close, Withdraw}
@@ -74,7 +78,17 @@ abbrev pub IsChosen : {W : Type 0} → (W → Type 0) → Option W → Type 0
 IsChosen IsMeant (Some words) = IsMeant words
 IsChosen {W} IsMeant None = (words : W) → ¬ IsMeant words
 
--- the words of a run, by the subcommand that was met, if any
-abbrev pub WordsAskFor : Option (Text × List Row) → Option Words → Type 0
-WordsAskFor None asked = asked ≡ None
-WordsAskFor (Some met) asked = IsChosen (AreWordsOfRun met.0 met.1) asked
+-- the refusal whose number was given, or none where no number was
+abbrev pub NamesRefusal : List Row → Option RefusalKind → Type 0
+NamesRefusal given (Some kind) = IsNumber 8 given (codes "number") (entry_of kind).number
+NamesRefusal given None = (number : ℕ) → ¬ IsNumber 8 given (codes "number") number
+
+-- what is asked for, by the name of its subcommand
+abbrev pub AsksBy : Text → List Row → Asked → Type 0
+AsksBy called given (Run words) = AreWordsOfRun called given words
+AsksBy called given (Refusals which) = (called ≡ codes "explain") × NamesRefusal given which
+
+-- what is asked for, by the subcommand that was met, if any
+abbrev pub AsksFor : Option (Text × List Row) → Option Asked → Type 0
+AsksFor None asked = asked ≡ None
+AsksFor (Some met) asked = IsChosen (AsksBy met.0 met.1) asked

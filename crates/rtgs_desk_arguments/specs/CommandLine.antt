@@ -31,6 +31,14 @@ port = record (named (needed (codes "port"))) { parser = Some (Signed (pos 1) (p
 abbrev pub count : Rule
 count = record (named (needed (codes "count"))) { parser = Some (Signed (pos 1) (pos 1000000)) }
 
+-- the number of a refusal, which may be left out
+abbrev pub refusal : Rule
+refusal = record (new_rule (codes "number")) {
+  action = Some Set;
+  value_names = 1;
+  parser = Some (Signed (pos 0) (pos 255));
+}
+
 abbrev pub debit : Rule
 debit = record (named (new_rule (codes "debit"))) { action = Some SetTrue }
 
@@ -96,6 +104,9 @@ report = subcommand (codes "report") (word (codes "date") ∷ [])
 abbrev pub serve : Shape
 serve = subcommand (codes "serve") (port ∷ count ∷ named (word (codes "operator-key")) ∷ [])
 
+abbrev pub explain : Shape
+explain = record (new_shape (codes "explain")) { rules = refusal ∷ [] }
+
 -- the subcommands, in the order of the help
 abbrev pub of_participants : List Shape
 of_participants = init ∷ migrate ∷ add ∷ credit ∷ post ∷ []
@@ -104,7 +115,7 @@ abbrev pub of_days : List Shape
 of_days = open_day ∷ import_orders ∷ withdraw ∷ resolve ∷ cut_off ∷ close_day ∷ []
 
 abbrev pub of_readings : List Shape
-of_readings = account ∷ accounts ∷ queue ∷ order ∷ statement ∷ report ∷ serve ∷ []
+of_readings = account ∷ accounts ∷ queue ∷ order ∷ statement ∷ report ∷ serve ∷ explain ∷ []
 
 -- the program itself: it has a version, one of its subcommands has to be given, and its own name is none of its words
 abbrev pub program : Shape

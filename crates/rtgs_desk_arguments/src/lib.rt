@@ -4,7 +4,8 @@
 ghost use Rattle.std.specs.Prelude.{◌≡◌, ◌++◌, IfOk, codes, false, true};
 ghost use Rattle.clap.specs.Words.{App, Shape, found_of, rows_of, rule_of, subcommand_rows_of, with_subcommand};
 ghost use Rattle.clap.specs.declared.parser.matches.ArgMatches.{ArgMatches as Found};
-ghost use Rattle.rtgs_desk_arguments.specs.Asked.{WordsAskFor, IsChosen, IsCommand, IsFlag, AreWordsOfReading, IsWord};
+ghost use Rattle.rtgs_desk_arguments.specs.Asked.{AreWordsOfRun, AsksFor, IsChosen, IsCommand, IsFlag};
+ghost use Rattle.rtgs_desk_arguments.specs.Asked.{AreWordsOfReading, IsWord};
 ghost use Rattle.rtgs_desk_arguments.specs.CommandLine as line;
 
 use clap::{Arg, ArgAction, ArgMatches, Command, Error};
@@ -12,10 +13,14 @@ use rtgs_desk_requests::{CommandWords, ReadingWords, Words};
 use std::alloc::{AllocError, Global};
 
 mod accounts;
+mod asked;
 mod days;
 mod orders;
 mod readings;
+mod refusals;
 mod serving;
+
+pub use crate::asked::Asked;
 
 /// What `--version` says behind the program's name: its version, that of the tables that it keeps a book in, and the
 /// kit that it is proved with, as `rt version` prints it.
@@ -151,7 +156,8 @@ fn desk_command<'a>(alloc: Global) -> Result<Command<'a>, AllocError>
     let desk = joined(desk, readings::order_command(alloc))?;
     let desk = joined(desk, readings::statement_command(alloc))?;
     let desk = joined(desk, readings::report_command(alloc))?;
-    joined(desk, serving::serve_command(alloc))
+    let desk = joined(desk, serving::serve_command(alloc))?;
+    joined(desk, refusals::explain_command(alloc))
 }
 
 /// The word that was given for an argument. One that is missing reads as no characters, which no form takes.
@@ -207,11 +213,10 @@ fn reading_words<'a>(name: &str, given: &ArgMatches<'a>) -> Option<ReadingWords<
     }
 }
 
-/// What the matches ask for.
-fn words_of<'a>(matches: &ArgMatches<'a>) -> Option<Words<'a>>
-    ensures { WordsAskFor (subcommand_rows_of matches.now) result }
+/// The words of a run.
+fn words_of<'a>(name: &str, given: &ArgMatches<'a>) -> Option<Words<'a>>
+    ensures { IsChosen (AreWordsOfRun name.now (rows_of (found_of given.now))) result }
 {
-    let (name, given) = matches.subcommand()?;
     let file = file_word(given);
     match name {
         "init" => Some(Words::Init { file }),
@@ -228,11 +233,28 @@ fn words_of<'a>(matches: &ArgMatches<'a>) -> Option<Words<'a>>
     }
 }
 
+/// What the matches ask for. The number of no refusal is a fault of the command line.
+fn asked_of<'a>(alloc: Global, matches: &ArgMatches<'a>) -> Result<Option<Asked<'a>>, Error>
+    ensures { IfOk result (AsksFor (subcommand_rows_of matches.now)) }
+{
+    let Some((name, given)) = matches.subcommand() else {
+        return Ok(None);
+    };
+    if name == "explain" {
+        let which = refusals::named_refusal(alloc, given)?;
+        return Ok(Some(Asked::Refusals(which)));
+    }
+    match words_of(name, given) {
+        Some(words) => Ok(Some(Asked::Run(words))),
+        None => Ok(None),
+    }
+}
+
 /// What the words ask for, or the fault or the help of the command line.
-pub fn read_words<'a>(alloc: Global, words: &'a [&'a str]) -> Result<Option<Words<'a>>, Error>
-    ensures { IfOk result (λ asked. (found : Found) × line.MeetsOne found × WordsAskFor (subcommand_rows_of found)
+pub fn read_words<'a>(alloc: Global, words: &'a [&'a str]) -> Result<Option<Asked<'a>>, Error>
+    ensures { IfOk result (λ asked. (found : Found) × line.MeetsOne found × AsksFor (subcommand_rows_of found)
         asked) }
 {
     let matches = desk_command(alloc)?.try_get_matches_from(words)?;
-    Ok(words_of(&matches))
+    asked_of(alloc, &matches)
 }

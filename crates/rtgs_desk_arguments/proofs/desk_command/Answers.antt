@@ -9,4 +9,5 @@ returns c =
     let order = c.in_ok-desk-5.ensures _ line.order queue c.order_command.ensures in
     let statement = c.in_ok-desk-6.ensures _ line.statement order c.statement_command.ensures in
     let report = c.in_ok-desk-7.ensures _ line.report statement c.report_command.ensures in
-    c.joined-7.ensures _ line.serve report c.serve_command.ensures
+    let serve = c.in_ok-desk-8.ensures _ line.serve report c.serve_command.ensures in
+    c.joined-8.ensures _ line.explain serve c.explain_command.ensures

@@ -1,3 +1,4 @@
+use Rattle.std.proofs.lemmas.Result.{IfOk-weaker}
 use Rattle.rtgs_desk_arguments.proofs.Commands.{meets_one}
 use Rattle.rtgs_desk_arguments.proofs.read_words.Goals as goal
 
@@ -6,4 +7,4 @@ returns c =
     let is = c.in_ok-desk_command.ensures in
     let parse = c.in_ok-matches.ensures in
     let met = meets_one _ c.in_ok-matches.matches is parse.parsed (parse.subcommand is.1) in
-    (c.in_ok-matches.matches, met, c.words_of.ensures)
+    IfOk-weaker c.asked_of.result _ _ (λ asked it. (c.in_ok-matches.matches, met, it)) c.asked_of.ensures
