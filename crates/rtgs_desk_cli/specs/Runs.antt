@@ -1,12 +1,16 @@
 -- What a run prints for its request, why it is refused, and what it leaves on its two writers.
-use Rattle.std.specs.Prelude.{◌≡◌, ◌≢◌, ◌⊎◌, ℕ, Bool, true, false, List, Option, Some, None, Result, Ok, Err}
+use Rattle.std.specs.Prelude.{◌≡◌, ◌≢◌, ◌⊎◌, ℕ, ⊤, Bool, true, false, List, Option, Some, None, Result, Ok, Err}
 use Rattle.std.specs.declared.snapshot.Snapshot.{Snapshot}
 use Rattle.clap.specs.Words.{kind_of}
 use Rattle.clap.specs.declared.error.Error.{Error}
 use Rattle.clap.specs.declared.error.kind.ErrorKind.{ErrorKind}
 use Rattle.clap.specs.declared.error.kind.ErrorKind.TheVariants as kind
+use Rattle.rtgs_refusals.specs.declared.refusal_kind.RefusalKind.{RefusalKind}
+use Rattle.rtgs_refusal_texts.specs.Texts.{explanation}
 use Rattle.rtgs_money.specs.declared.lexical.Lexical.{Lexical}
 use Rattle.rtgs_book.specs.declared.refusal.Refusal.TheVariants.{OutOfMemory}
+use Rattle.rtgs_desk_arguments.specs.declared.asked.Asked.{Asked}
+use Rattle.rtgs_desk_arguments.specs.declared.asked.Asked.TheVariants.{Run, Refusals}
 use Rattle.rtgs_desk_requests.specs.Requests.{ReadsRequest}
 use Rattle.rtgs_desk_requests.specs.declared.words.Words.{Words}
 use Rattle.rtgs_desk_requests.specs.declared.request.Request.{Request}
@@ -18,6 +22,7 @@ use Rattle.rtgs_desk_lines.specs.declared.ended.Ended.TheVariants as ended
 use Rattle.rtgs_desk_lines.specs.declared.failure.Failure.{Failure}
 use Rattle.rtgs_desk_lines.specs.declared.failure.Failure.TheVariants.{Form, Refused}
 use Rattle.rtgs_desk_lines.specs.declared.printed.Printed.{Printed}
+use Rattle.rtgs_output.specs.declared.writer_failed.WriterFailed.{WriterFailed}
 use Rattle.rtgs_http_server.specs.declared.port.Port.{Port}
 use Rattle.rtgs_book_file.specs.OverFile.{OverFile}
 use Rattle.rtgs_desk_files.specs.Printing.{ended_line, PrintsText}
@@ -50,6 +55,12 @@ IsExplained what contents told (ended.Refused failure sent) out out' err err' =
 IsExplained what contents told (ended.Misused sent) out out' err err' =
     (is_help what ≡ false) × (what ≢ kind.OutOfMemory) × ((text : List ℕ) × IsTold sent (told err) (told err') text)
     × (out' ≡ out)
+
+-- what is said of a refusal, or of each, is left on the first writer, as far as that took it
+abbrev pub AreExplained : {O : Type 0} → Option RefusalKind → (O → Option (List ℕ)) → Ended → O → O → Type 0
+AreExplained which contents ends out out' =
+    (sent : Result ⊤ WriterFailed) × (ends ≡ ended.Helped sent)
+    × IsTold sent (contents out) (contents out') (explanation which)
 
 -- the file that a request names
 abbrev pub file_of : Request → List ℕ
@@ -118,12 +129,14 @@ module _ {A K U C : Type 0} (book_file : OverFile K U C) where
   EndsFor words contents told (ended.Helped sent) touched out out' err err' = ⊥
   EndsFor words contents told (ended.Misused sent) touched out out' err err' = ⊥
 
-  -- The same of a run whose command line was read so: the words of a request, none, or what the command line itself
-  -- has to say.
-  abbrev pub EndsAfter : {O E : Type 0} → Result (Option Words) Error → (O → Option (List ℕ)) → (E → Option (List ℕ))
+  -- The same of a run whose command line was read so: the words of a request, the refusals to explain, none, or what
+  -- the command line itself has to say.
+  abbrev pub EndsAfter : {O E : Type 0} → Result (Option Asked) Error → (O → Option (List ℕ)) → (E → Option (List ℕ))
       → Ended → Traces A U C → O → O → E → E → Type 0
-  EndsAfter (Ok (Some words)) contents told ends touched out out' err err' =
+  EndsAfter (Ok (Some (Run words))) contents told ends touched out out' err err' =
       EndsFor words contents told ends touched out out' err err'
+  EndsAfter (Ok (Some (Refusals which))) contents told ends touched out out' err err' =
+      AreExplained which contents ends out out' × (err' ≡ err) × IsUntouched book_file touched
   EndsAfter (Ok None) contents told ends touched out out' err err' =
       (ends ≡ ended.Misused (Ok _)) × (out' ≡ out) × (err' ≡ err) × IsUntouched book_file touched
   EndsAfter (Err error) contents told ends touched out out' err err' =
@@ -133,4 +146,4 @@ module _ {A K U C : Type 0} (book_file : OverFile K U C) where
   abbrev pub Ends : {O E : Type 0} → (O → Option (List ℕ)) → (E → Option (List ℕ)) → Ended
       → Traces A U C → O → O → E → E → Type 0
   Ends contents told ends touched out out' err err' =
-      (read : Result (Option Words) Error) × EndsAfter read contents told ends touched out out' err err'
+      (read : Result (Option Asked) Error) × EndsAfter read contents told ends touched out out' err err'

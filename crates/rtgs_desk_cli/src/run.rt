@@ -6,18 +6,20 @@ ghost use Rattle.rtgs_output.specs.declared.WriterFailed.{WriterFailed};
 ghost use Rattle.rtgs_desk_lines.specs.Failures.{failure_line as refusal_line};
 ghost use Rattle.rtgs_desk_lines.specs.Told.{IsTold};
 ghost use Rattle.rtgs_desk_files.specs.Printing.{ended_line};
-ghost use Rattle.rtgs_desk_cli.specs.Runs.{Ends, EndsAfter, IsDenied, IsExplained, IsObeyed};
+ghost use Rattle.rtgs_desk_cli.specs.Runs.{AreExplained, Ends, EndsAfter, IsDenied, IsExplained, IsObeyed};
 
 use crate::acting::{RunMet, act};
 use clap::Error;
 use clap::error::ErrorKind;
 use rtgs_book_file::{FileKeeper, Start};
-use rtgs_desk_arguments::read_words;
+use rtgs_desk_arguments::{Asked, read_words};
 use rtgs_desk_files::{Acted, Touched, Traces};
 use rtgs_desk_lines::{Ended, Failure, Printed};
 use rtgs_desk_requests::{Request, Words};
 use rtgs_keeper::Keeper;
 use rtgs_output::send_all;
+use rtgs_refusal_texts::print_texts;
+use rtgs_refusals::RefusalKind;
 use std::alloc::{AllocError, Global};
 use std::io::Write;
 
@@ -33,6 +35,16 @@ fn explain<O: Write, E: Write>(alloc: Global, error: &Error, out: &mut O, err: &
         Ok(text) if error.use_stderr() => Ended::Misused(send_all(err, text.as_bytes())),
         Ok(text) => Ended::Helped(send_all(out, text.as_bytes())),
         Err(error) => refused(Failure::from(error), err),
+    }
+}
+
+// Says what a refusal means, or each, on standard output.
+fn explain_refusals<O: Write>(which: Option<RefusalKind>, out: &mut O) -> Ended
+    ensures { AreExplained which O.contents result out.old out.new }
+{
+    match print_texts(which, out) {
+        Ok(()) => Ended::Helped(Ok(())),
+        Err(failed) => Ended::Helped(Err(failed)),
     }
 }
 
@@ -66,7 +78,7 @@ fn obey<S: Start, O: Write>(
 /// Does what the words of a command line ask for that was read so, and tells how that ended, and what was touched.
 fn end<S: Start, O: Write, E: Write>(
     rt: &HostRuntime,
-    read: Result<Option<Words<'_>>, Error>,
+    read: Result<Option<Asked<'_>>, Error>,
     start: S,
     out: &mut O,
     err: &mut E,
@@ -75,12 +87,15 @@ fn end<S: Start, O: Write, E: Write>(
         read.entry O.contents E.contents result.0 result.1 out.old out.new err.old err.new }
 {
     match read {
-        Ok(Some(words)) => {
+        Ok(Some(Asked::Run(words))) => {
             let (acted, touched) = obey(rt, &words, start, out);
             match acted {
                 Ok(printed) => (Ended::Printed(printed), touched),
                 Err(failure) => (refused(failure, err), touched),
             }
+        }
+        Ok(Some(Asked::Refusals(which))) => {
+            (explain_refusals(which, out), Touched::Nothing(start))
         }
         Ok(None) => (Ended::Misused(Ok(())), Touched::Nothing(start)),
         Err(error) => {
