@@ -6,6 +6,7 @@ mod automatic_days;
 mod databases;
 mod days;
 mod due_dates;
+mod explaining;
 mod files;
 mod gridlocks;
 mod helps;

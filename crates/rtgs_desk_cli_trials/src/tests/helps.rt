@@ -93,6 +93,11 @@ $ names serve --help
 = Serves connections over HTTP, one after the other
 = Usage: desk serve --port <P> --count <N> --operator-key <KEY> <FILE>
 status 0 helped
+$ names explain --help
+= Says what a refusal means, what it comes from and what to do
+= Usage: desk explain [NUMBER]
+> The number of the refusal; without it, each is explained
+status 0 helped
 $ names help serve
 = Serves connections over HTTP, one after the other
 status 0 helped
