@@ -4,7 +4,7 @@ import typing
 
 OPTION = re.compile(r"(?:(?P<short>-\w), )?(?P<name>--[\w-]+)(?: <(?P<value>\w+)>)?")
 # (a line of a list has two blanks before it; one with more goes on with the help of the line before)
-ENTRY = re.compile(r"  (?:    )?(?P<shown><\w+>|-[^ ]+(?:,? [-<][^ ]+)*|\w[\w-]*)(?:  +(?P<help>.*))?")
+ENTRY = re.compile(r"  (?:    )?(?P<shown><\w+>|\[\w+\]|-[^ ]+(?:,? [-<][^ ]+)*|\w[\w-]*)(?:  +(?P<help>.*))?")
 
 
 class Entry(typing.NamedTuple):
@@ -47,7 +47,7 @@ def listed(lines):
     for line in lines:
         entry = ENTRY.fullmatch(line)
         if entry:
-            found.append(Entry(re.sub(r"^<(\w+)>$", r"\1", entry["shown"]), entry["help"] or ""))
+            found.append(Entry(re.sub(r"^[<[](\w+)[>\]]$", r"\1", entry["shown"]), entry["help"] or ""))
         elif line.strip() and found:
             last = found.pop()
             found.append(Entry(last.shown, f"{last.help} {line.strip()}".strip()))

@@ -33,10 +33,17 @@ def examples(text):
 
 
 def marked(usage):
-    """Returns a usage with its words in bold, and the names of its values in italics."""
-    words = [f"\\fI{escaped(it.strip('<>'))}\\fR" if it.startswith("<") else f"\\fB{escaped(it)}\\fR"
-             for it in usage.split()]
-    return " ".join(words)
+    """Returns a usage with its words in bold, and the names of its values in italics, one that may be left out too."""
+    return " ".join(map(marked_word, usage.split()))
+
+
+def marked_word(it):
+    """Returns a word of a usage, in bold or in italics."""
+    if it.startswith("<"):
+        return f"\\fI{escaped(it.strip('<>'))}\\fR"
+    if it.startswith("[") and it != "[OPTIONS]":
+        return f"[\\fI{escaped(it.strip('[]'))}\\fR]"
+    return f"\\fB{escaped(it)}\\fR"
 
 
 def tagged(tag, text):

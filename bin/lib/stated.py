@@ -131,12 +131,18 @@ TEXTS = {
     ],
     "docs/OPERATORS.md": [
         "A key is {key} characters of 0-9 and a-f.",
-        "{queue} orders of the sender are queued or held",
-        "the book has {number} postings or orders",
+        "{queue} orders of its sender are queued or held already",
+        "the book has {number} postings, or orders",
         "the book has {participants} participants",
         "balances would exceed {total:p} cents",
-        "phase: {closed} closed, {open} open, {cut_off} cut off",
-        "or more than {rows} (42); it has more than {file} bytes (63)",
+        "not of its form: {shortest_code} to {code} characters, a capital letter,",
+        "not of its form: 1 to {reference} characters, each",
+        "1 to {name} printable ASCII characters, no space",
+        "a key is not of its form: {key} characters of 0-9 and a-f",
+        "in the years {first} to {last}",
+        "the order file has no row, or more than {rows} |",
+        "does not end within {head} bytes",
+        "the body of the request, has more than {body} bytes |",
         "| participants | {participants} | 12 |",
         "| queued and held orders of one sender, together | {queue} | 7",
         "| an order | 1 to {amount} cents | 41 |",
@@ -288,6 +294,16 @@ def constants():
 def told(text):
     """Returns a text with its numbers."""
     return text.format(**constants())
+
+
+def explanations():
+    """Returns what the program says of each refusal: its number and name, its meaning, its sources, and what to do."""
+    text = content(f"{CRATES}/rtgs_refusal_texts/src/texts.rt")
+    found = []
+    for said in re.findall(r'^const \w+: &str = "\\\n(.*?)\n";$', text, re.M | re.S):
+        head, *parts = re.sub(r"\n {6}", " ", said).replace('\\"', '"').split("\n")
+        found.append((head, *(re.sub(r"^  (?:means|comes from|do): ", "", it) for it in parts)))
+    return found
 
 
 def refusals():

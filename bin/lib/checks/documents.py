@@ -4,8 +4,9 @@ README.md has at most 900 words, docs/GUARANTEES.md at most 6,000, and docs/DECI
 form. Each file that a document names must be there, and each heading to which it links. GUARANTEES.md must have each
 promise of the crate `rtgs_promises` with its first sentences, and no other; the functions, clauses and types that it
 names must stand in docs/CONTRACTS.md, or else in the code. SPECIFICATION.md must have the refusals as the code has
-them. Each number must be one of a constant, of a refusal, or of another script or test (bin/lib/stated.py); measures
-stand in COSTS.md alone, in sections that name what measured them. Builds and runs nothing.
+them, and OPERATORS.md what the program explains of each. Each number must be one of a constant, of a refusal, or of
+another script or test (bin/lib/stated.py); measures stand in COSTS.md alone, in sections that name what measured them.
+Builds and runs nothing.
 """
 import functools
 import glob
@@ -19,7 +20,7 @@ NEEDS_THE_PROGRAM = False
 WORDS = {"README.md": 900, "docs/GUARANTEES.md": 6000}
 ENTRIES = 60
 DECISIONS, GUARANTEES, COSTS = "docs/DECISIONS.md", "docs/GUARANTEES.md", "docs/COSTS.md"
-SPECIFICATION, CONTRACTS = "docs/SPECIFICATION.md", "docs/CONTRACTS.md"
+SPECIFICATION, CONTRACTS, OPERATORS = "docs/SPECIFICATION.md", "docs/CONTRACTS.md", "docs/OPERATORS.md"
 FORM = ["Chosen", "Because", "Instead of", "Price"]
 PROMISE = re.compile(r"((?:^///[^\n]*\n)+)// To judge it, read (?:[^\n]*\n)(?:// [^\n]*\n)*^pub fn (\w+)", re.M)
 # what stands for a name, or is made by a run
@@ -292,6 +293,17 @@ def refusals_as_specified(text, sees):
     sees("statuses of replies", {it: replies.get(it, int(told[2])) for it in wanted}, wanted)
 
 
+def refusals_as_explained(text, sees):
+    """The handbook has what `desk explain` says of each refusal, in the same order."""
+    rows = re.findall(r"^\| (\d\d \w+) \| (.*) \| (.*) \| (.*) \|$", section(text, "Refusals"), re.M)
+    wanted = stated.explanations()
+    heads = [f"{number:02} {of[0]}" for number, of in sorted(stated.refusals().items())]
+    sees("refusals that the program explains", [it[0] for it in wanted], heads)
+    sees(f"refusals of {OPERATORS}", [it[0] for it in rows], [it[0] for it in wanted])
+    for row, it in zip(rows, wanted):
+        sees(f"{OPERATORS}, {it[0]}", row, it)
+
+
 def measures(text, sees):
     """Each section of the costs that has a number names what measured it."""
     for part in re.split(r"^## ", text, flags=re.M)[1:]:
@@ -313,5 +325,6 @@ def run(_given, report):
     for name in ("README.md", GUARANTEES):
         names(name, read(name), report.sees)
     refusals_as_specified(read(SPECIFICATION), report.sees)
+    refusals_as_explained(read(OPERATORS), report.sees)
     measures(read(COSTS), report.sees)
     report.finds(f"{report.right} things as they must be, {report.wrong} not")

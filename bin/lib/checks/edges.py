@@ -11,7 +11,7 @@ import shlex
 import shutil
 import socket
 
-from lib import desks, runs
+from lib import desks, runs, stated
 from lib.checks import migrations
 
 BOOK = "bank.desk"
@@ -99,7 +99,7 @@ READINGS = ["account @ ALFA", "accounts @", "queue @ ALFA", "order @ ALFA A-1", 
             "report @ 2024-03-04"]
 # every command, in words that are well formed
 EACH = [*migrations.OTHERS, "migrate @", "init @"]
-MISUSED = ["", "pay @", "init", "init @ @", "post @ ALFA P-9", "init --unknown", SERVE.format(0)]
+MISUSED = ["", "pay @", "init", "init @ @", "post @ ALFA P-9", "init --unknown", "explain 21", SERVE.format(0)]
 # A run meets these refusals in rows of result files alone; this one after 999999999 postings; and this one never.
 OF_ROWS, AT_THE_LAST_NUMBER, NEVER = {2, 3, 5, 7, 20}, {8}, {92}
 # a shell that starts a program whose files may not grow past half a mebibyte
@@ -176,7 +176,7 @@ def other_files(edges):
 
 def helps(edges):
     """Help and the version, and words that are no command line."""
-    commands = {it.split(" ")[0] for it in EACH}
+    commands = {it.split(" ")[0] for it in EACH} | {"explain"}
     edges.prints("--help")
     edges.sees("--version", bool(re.fullmatch(r"desk [\d.]+, tables \d+, .+\n", edges.prints("--version"))), True)
     for line in ("{} --help", "help {}"):
@@ -190,12 +190,18 @@ def helps(edges):
     edges.sees("a word that is not UTF-8", (ran.status, ran.out, ran.err != ""), (2, "", True))
 
 
+def explanations(edges):
+    """What is said of each refusal by its number, and of all of them one after another."""
+    each = "".join(edges.prints(f"explain {number}") for number in sorted(stated.refusals()))
+    edges.sees("explain", edges.prints("explain"), each)
+
+
 def full_streams(edges):
     """Runs whose standard output or standard error takes no byte, and an import that stops."""
     with open("/dev/full", "wb") as full:
         edges.sees("a posting to no output", edges.tried("post @ ALFA P-9 1", stdout=full), (runs.Ran(3), True))
         edges.follows("post @ ALFA P-9 1 => =repeated")
-        for line in ("--help", "--version", *READINGS, SERVE.format(desks.free_port())):
+        for line in ("--help", "--version", "explain", *READINGS, SERVE.format(desks.free_port())):
             edges.sees(f"{line} to no output", edges.tried(line, stdout=full), (runs.Ran(3), False))
         for line, status in (("post @ ZETA P-9 1", 1), ("init @", 3), ("pay @", 2)):
             edges.sees(f"{line} to no error", edges.tried(line, stderr=full), (runs.Ran(status), False))
@@ -226,6 +232,7 @@ def run(_given, report):
             edges.prints(line)
         other_files(edges)
         helps(edges)
+        explanations(edges)
         full_streams(edges)
         lack_of_memory(edges)
     must = set(runs.refusals()) - OF_ROWS - AT_THE_LAST_NUMBER - NEVER

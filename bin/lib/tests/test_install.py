@@ -20,6 +20,7 @@ Usage: desk <COMMAND>
 Commands:
   import  Submits a participant's file of orders
   serve   Serves connections
+  explain  Says what a refusal means
   help    Print this message or the help of the given subcommand(s)
 
 Options:
@@ -57,10 +58,22 @@ Options:
   -h, --help
           Print help
 """
+EXPLAIN = """\
+Says what a refusal means
+
+Usage: desk explain [NUMBER]
+
+Arguments:
+  [NUMBER]  The number of the refusal
+
+Options:
+  -h, --help  Print help
+"""
 TEXTS = {
     ("--help",): WHOLE,
     ("import", "--help"): IMPORT,
     ("serve", "--help"): SERVE,
+    ("explain", "--help"): EXPLAIN,
     ("--version",): "desk 1.2, more\n",
 }
 
@@ -76,7 +89,7 @@ def needs(tool):
 class Helps(unittest.TestCase):
     def test_a_help_text_is_read_into_its_parts(self):
         program = helps.program(run)
-        self.assertEqual(list(program.each), ["import", "serve"])
+        self.assertEqual(list(program.each), ["import", "serve", "explain"])
         said = program.each["import"]
         self.assertEqual(said.about, "Submits a participant's file of orders")
         self.assertEqual(said.usage, "desk import [OPTIONS] <FILE> <CODE> <ORDERS>")
@@ -87,6 +100,11 @@ class Helps(unittest.TestCase):
         said = helps.program(run).each["serve"]
         self.assertEqual(said.arguments, [("FILE", "The file of the book")])
         self.assertEqual(said.options[0], ("--port", "", "P", "The port, 1 to 65535"))
+
+    def test_an_argument_that_may_be_left_out_is_read_too(self):
+        said = helps.program(run).each["explain"]
+        self.assertEqual(said.arguments, [("NUMBER", "The number of the refusal")])
+        self.assertEqual(manual.marked(said.usage), "\\fBdesk\\fR \\fBexplain\\fR [\\fINUMBER\\fR]")
 
     def test_what_is_no_help_text_is_refused(self):
         for text in ("refused 93 NotADeskFile\n", WHOLE.replace("Options:", "Settings:")):
