@@ -3,26 +3,25 @@ ghost use Rattle.std.specs.Prelude.{◌≡◌, ◌↔◌, None, IsTrue};
 ghost use Rattle.rtgs_book_file.specs.Closed.{LeavesClosed};
 
 use crate::closed_files::ClosedFiles;
+use crate::files_gone::FilesGone;
 use crate::held_lock::HeldLock;
-use crate::locked::Locked;
+use crate::let_go::LetGo;
 use sqlite::{Connection, FileFrom, FileStore, Start};
 
-/// What is left of a book's file that was closed, and its lock. As it is dropped, the files are let go, and then the
-/// lock.
-#[derive(Drop)]
+/// What is left of a book's file that was closed, and its lock. As the lock cannot be dropped, it ends by `let_go`
+/// alone.
 pub struct ClosedBook<S: Start> {
-    pub(crate) files: ClosedFiles<FileFrom<S>>,
-    pub(crate) lock: Locked,
+    files: ClosedFiles<FileFrom<S>>,
+    lock: HeldLock,
 }
 
 impl<S: Start> ClosedBook<S> {
     /// Copies the log into the file. Where that fails, what was committed stands in the log.
     pub(crate) fn copied(conn: Connection<FileStore<FileFrom<S>>>, lock: HeldLock) -> ClosedBook<S>
         ensures closed { LeavesClosed conn result.files }
-        ensures held { result.lock ≡ lock.locked }
+        ensures held { result.lock ≡ lock }
     {
         let files = ClosedFiles::of(conn);
-        let lock = lock.into_locked();
         ClosedBook { files, lock }
     }
 
@@ -31,5 +30,16 @@ impl<S: Start> ClosedBook<S> {
         ensures { IsTrue result ↔ (self.now.files.uncopied ≡ None) }
     {
         self.files.are_copied()
+    }
+
+    /// Lets the files go, and then the lock.
+    pub fn let_go(self) -> LetGo<S>
+        ensures files { result.files.value ≡ self.files }
+        ensures name { result.name.value ≡ self.lock.locked.name }
+    {
+        let ClosedBook { files, lock } = self;
+        let gone = FilesGone::of(files);
+        let name = lock.let_go(&gone);
+        LetGo::of(gone, name)
     }
 }

@@ -27,11 +27,10 @@ impl<K: Keeper> FinishedBook<K> {
 }
 
 impl<S: Start> FinishedBook<FileKeeper<S>> {
-    /// Copies the log into the file. The lock is let go as what is left is dropped. What was committed stands in the
-    /// log where the copying fails.
+    /// Copies the log into the file. The lock stays held. What was committed stands in the log where the copying fails.
     pub fn close(self) -> ClosedBook<S>
         ensures closed { LeavesClosed self.desk.keeper.conn result.files }
-        ensures held { result.lock ≡ self.lock.locked }
+        ensures held { result.lock ≡ self.lock }
     {
         let FinishedBook { desk, lock } = self;
         ClosedBook::copied(desk.into_keeper().into_connection(), lock)

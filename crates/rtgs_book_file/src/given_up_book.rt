@@ -1,6 +1,7 @@
 //! A book's file that was given up.
 ghost use Rattle.rtgs_book_file.specs.Closed.{LeavesNoMore};
 
+use crate::files_gone::FilesGone;
 use crate::held_lock::HeldLock;
 use sqlite::{Connection, FileFrom, FileStore, Files, Start};
 use std::snapshot::Snapshot;
@@ -19,11 +20,11 @@ impl<S: Start> GivenUpBook<S> {
     pub(crate) fn of(conn: Connection<FileStore<FileFrom<S>>>, lock: HeldLock) -> GivenUpBook<S>
         ensures { LeavesNoMore conn result.files.value }
     {
-        let left = files_given_up(conn);
-        let files = Snapshot::of(&left);
-        drop(left);
-        drop(lock.into_locked());
-        GivenUpBook { files }
+        let gone = FilesGone::of(files_given_up(conn));
+        let _name = lock.let_go(&gone);
+        GivenUpBook {
+            files: gone.files(),
+        }
     }
 }
 

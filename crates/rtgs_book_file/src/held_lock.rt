@@ -1,10 +1,12 @@
-//! The lock of a book's file, once its store was opened.
+//! The lock of a book's file whose store is opened.
 ghost use Rattle.std.specs.Prelude.{◌≡◌};
 
+use crate::files_gone::FilesGone;
 use crate::locked::Locked;
+use std::snapshot::Snapshot;
 
-/// The lock of a book's file, once its store was opened. It cannot be dropped: it ends in what is left of a book's file
-/// alone, which takes the store to be closed. So the lock is held until then.
+/// The lock of a book's file whose store is opened. It cannot be dropped: it ends by `let_go` alone, which takes files
+/// that are gone. So the lock is held until then.
 pub(crate) struct HeldLock {
     locked: Locked,
 }
@@ -17,11 +19,13 @@ impl HeldLock {
         HeldLock { locked }
     }
 
-    /// The lock.
-    pub(crate) fn into_locked(self) -> Locked
-        ensures { result ≡ self.locked }
+    /// Lets the lock go, now that the files are gone. Its name, as contracts see it.
+    pub(crate) fn let_go<F: Drop>(self, _gone: &FilesGone<F>) -> Snapshot<String>
+        ensures { result.value ≡ self.locked.name }
     {
         let HeldLock { locked } = self;
-        locked
+        let name = locked.name();
+        drop(locked);
+        name
     }
 }

@@ -1,6 +1,8 @@
 //! A book's file that was closed and let go.
-use crate::closed_book::ClosedBook;
+ghost use Rattle.std.specs.Prelude.{◌≡◌};
+
 use crate::closed_files::ClosedFiles;
+use crate::files_gone::FilesGone;
 use sqlite::{FileFrom, Start};
 use std::snapshot::Snapshot;
 
@@ -12,17 +14,15 @@ pub struct LetGo<S: Start> {
     name: Snapshot<String>,
 }
 
-impl<S: Start> ClosedBook<S> {
-    ghost use Rattle.std.specs.Prelude.{◌≡◌};
-
-    /// Lets the files go, and then the lock.
-    pub fn let_go(self) -> LetGo<S>
-        ensures files { result.files.value ≡ self.files }
-        ensures name { result.name.value ≡ self.lock.name }
+impl<S: Start> LetGo<S> {
+    /// What was left of these files, whose lock had this name.
+    pub(crate) fn of(gone: FilesGone<ClosedFiles<FileFrom<S>>>, name: Snapshot<String>) -> LetGo<S>
+        ensures files { result.files ≡ gone.files }
+        ensures name { result.name ≡ name }
     {
-        let files = Snapshot::of(&self.files);
-        let name = self.lock.name();
-        drop(self);
-        LetGo { files, name }
+        LetGo {
+            files: gone.files(),
+            name,
+        }
     }
 }

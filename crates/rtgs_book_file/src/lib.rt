@@ -6,6 +6,7 @@ mod cause;
 mod closed_book;
 mod closed_files;
 mod file_fault;
+mod files_gone;
 mod finished_book;
 mod given_up_book;
 mod held_lock;

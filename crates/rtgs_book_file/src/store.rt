@@ -6,6 +6,7 @@ ghost use Rattle.sqlite.specs.State.{HasCleanDisk};
 ghost use Rattle.sqlite.specs.WalFiles.{image_at};
 ghost use Rattle.rtgs_book_file.specs.Refused.{IsNoBook};
 
+use crate::files_gone::FilesGone;
 use crate::held_lock::HeldLock;
 use crate::looked_at::LookedAt;
 use crate::not_reached::NotReached;
@@ -30,11 +31,11 @@ pub(crate) fn connect<S: Start>(
     ensures refused { IfErr result (λ it. IsNoBook ⟦<FileFrom<S> as Disk>⟧ (image_at S.Start) it.fault) }
 {
     let (path, locked, start) = file.into_parts();
+    let lock = HeldLock::of(locked);
     match Connection::open_from(rt, path, false, start) {
-        Ok(conn) => Ok((conn, HeldLock::of(locked))),
+        Ok(conn) => Ok((conn, lock)),
         Err((error, left)) => {
-            drop(left);
-            drop(locked);
+            let _name = lock.let_go(&FilesGone::of(left));
             Err(NotReached::of(&error))
         }
     }
