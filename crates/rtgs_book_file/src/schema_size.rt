@@ -20,6 +20,9 @@ const WITH_SUMS: u32 = 0x0840_2020;
 // The size of the page that an opening leaves which was cut short.
 const NEW_SIZE: usize = 4096;
 
+// How many pages are kept in memory. Each page of the list is read once, so more would only be made and thrown away.
+const KEPT_PAGES: usize = 16;
+
 /// What was read of how many objects a file lists. Only `listed` gives one, and what the store read, only `counted`.
 #[derive(Clone, Copy, Debug)]
 pub(crate) struct SchemaSize {
@@ -123,7 +126,11 @@ fn over<D: Disk + Drop>(
     ensures usable { IfSome result AreUsable }
     ensures same { IfSome result (λ found. image found ≡ image_of D.Disk files) }
 {
-    let pager = match Pager::new(alloc, files, size, Options::new(0)) {
+    let options = Options {
+        cache_pages: KEPT_PAGES,
+        ..Options::new(0)
+    };
+    let pager = match Pager::new(alloc, files, size, options) {
         Ok(pager) => pager,
         Err(_) => return None,
     };
