@@ -4,7 +4,7 @@ import os
 import tempfile
 
 import kit
-from lib import completions, desks, evidence, helps, manual
+from lib import completions, desks, helps, manual, sources
 
 DEPLOY = f"{kit.TOP}/deploy"
 HANDBOOKS = ("OPERATORS.md", "BANKS.md", "AUDITORS.md", "SPECIFICATION.md", "openapi.yaml")
@@ -38,9 +38,11 @@ def copied(folder, names, below):
     return {f"{below}/{it}": read(f"{folder}/{it}") for it in names}
 
 
-def origin(program):
-    """Returns what an auditor builds again to compare a program: the commit, the kit, and the digest of its bytes."""
-    said = {"commit": evidence.commit(), "kit": kit.version(), "sha256": hashlib.sha256(program).hexdigest()}
+def origin(version, program):
+    """Returns what an auditor builds again to compare a program of this version: the commit, the kit, and the digest of
+    its bytes."""
+    digest = hashlib.sha256(program).hexdigest()
+    said = {"commit": sources.commit(version), "kit": kit.version(), "sha256": digest}
     return "".join(f"{name} {it}\n" for name, it in said.items())
 
 
@@ -49,7 +51,7 @@ def files(prefix, run):
     program, built = helps.program(run), desks.content(desks.DESK)
     texts = {
         PAGE: manual.made(program, f"{prefix}/{DOC}"),
-        ORIGIN: origin(built),
+        ORIGIN: origin(program.version, built),
         UNIT: with_prefix(read(f"{DEPLOY}/desk.service"), prefix),
         **{path: make("desk", program) for path, make in SHELLS.items()},
         **copied(DEPLOY, ("nginx.conf", "Caddyfile"), SHARED),

@@ -9,7 +9,7 @@ import unittest
 from unittest import mock
 
 import kit
-from lib import completions, desks, evidence, helps, installing, manual, stated
+from lib import completions, desks, evidence, helps, installing, manual, sources, stated
 from lib.checks import install
 
 WHOLE = """\
@@ -220,6 +220,21 @@ class Installing(unittest.TestCase):
             digest = hashlib.sha256(it.read()).hexdigest()
         said = desks.content(f"{self.prefix}/{installing.ORIGIN}").decode().splitlines()
         self.assertEqual(said, [f"commit {evidence.commit()}", f"kit {kit.version()}", f"sha256 {digest}"])
+
+    def test_a_program_that_names_its_commit_is_of_that(self):
+        named = "0123456789abcdef" * 2 + "01234567"
+        self.assertEqual(sources.commit(f"desk 1.2, kit x, commit {named}"), named)
+        self.assertEqual(sources.commit("desk 1.2, kit x, commit $Format:%H$"), evidence.commit())
+
+    @unittest.skipUnless(sources.is_checkout(), "needs a checkout")
+    def test_sources_that_git_writes_name_their_commit(self):
+        path = "crates/rtgs_desk_arguments/src/version.rt"
+        with desks.room() as folder:
+            sources.write(folder)
+            version = desks.content(f"{folder}/{path}").decode().split('"')[1]
+        self.assertEqual(sources.commit(version), evidence.output("git", "rev-parse", "HEAD"))
+        with open(f"{kit.TOP}/{path}", encoding="utf-8") as it:
+            self.assertIn('commit $Format:%H$"', it.read())
 
     def test_the_unit_has_the_prefix_and_one_that_it_cannot_have_is_refused(self):
         self.installed()

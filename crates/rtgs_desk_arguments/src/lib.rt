@@ -8,6 +8,7 @@ ghost use Rattle.rtgs_desk_arguments.specs.Asked.{AreWordsOfRun, AsksFor, IsChos
 ghost use Rattle.rtgs_desk_arguments.specs.Asked.{AreWordsOfReading, IsWord};
 ghost use Rattle.rtgs_desk_arguments.specs.CommandLine as line;
 
+use crate::version::VERSION;
 use clap::{Arg, ArgAction, ArgMatches, Command, Error};
 use rtgs_desk_requests::{CommandWords, ReadingWords, Words};
 use std::alloc::{AllocError, Global};
@@ -19,12 +20,9 @@ mod orders;
 mod readings;
 mod refusals;
 mod serving;
+mod version;
 
 pub use crate::asked::Asked;
-
-/// What `--version` says behind the program's name: its version, that of the tables that it keeps a book in, and the
-/// kit that it is proved with, as `rt version` prints it.
-const VERSION: &str = "0.12.0, tables 3, rattle-kit-13f logic dac8208d650f15bf";
 
 /// The book's file, which each subcommand takes first.
 fn file_argument<'a>(alloc: Global) -> Arg<'a>

@@ -1,0 +1,29 @@
+"""The sources of the commit that is checked out, with its name in them: by it the program names its commit."""
+import os
+import re
+import subprocess
+
+import kit
+from lib import desks, evidence
+
+# how a program that was built from such sources ends its version
+NAMED = re.compile(r"commit ([0-9a-f]{40})$")
+
+
+def is_checkout():
+    """Returns whether this tree is a checkout of git. Sources that git wrote into a folder are none."""
+    return os.path.exists(f"{kit.TOP}/.git")
+
+
+def write(folder):
+    """Writes the sources of the commit that is checked out into a folder, without what was changed since."""
+    packed = subprocess.run(["git", "archive", "HEAD"], cwd=kit.TOP, stdout=subprocess.PIPE, check=False)
+    if packed.returncode:
+        raise desks.Broken("git gives no sources of the commit")
+    subprocess.run(["tar", "-x", "-C", folder], input=packed.stdout, check=True)
+
+
+def commit(version):
+    """Returns the commit of a program, by its version: the one that it names, or else that of the tree."""
+    found = NAMED.search(version)
+    return found[1] if found else evidence.commit()
