@@ -1,5 +1,5 @@
 //! Readings over tables: those that look into them, and that of all accounts, which asks for memory alone.
-use super::super::scarce::setting::{MONDAY, code, date, reference};
+use super::super::scarce::setting::{MONDAY, TUESDAY, code, date, reference};
 use super::super::scarce::{Asks, Question, for_each_refusal};
 use super::over_sql::{BLOCKS, OverSql};
 use rtgs_book::Reading;
@@ -47,4 +47,30 @@ fn report(rt: HostRuntime) -> Result<(), Fail> {
         date: date(MONDAY)?,
     };
     tries(&rt, "tests::over_tables::readings::report", reading)
+}
+
+// Of a day after all records, which are passed over: of postings and marks by halvings, and of orders by leaps.
+#[test]
+fn statement_of_a_later_day(rt: HostRuntime) -> Result<(), Fail> {
+    let reading = Reading::Statement {
+        code: code("ALFA")?,
+        date: date(TUESDAY)?,
+    };
+    tries(
+        &rt,
+        "tests::over_tables::readings::statement_of_a_later_day",
+        reading,
+    )
+}
+
+#[test]
+fn report_of_a_later_day(rt: HostRuntime) -> Result<(), Fail> {
+    let reading = Reading::Report {
+        date: date(TUESDAY)?,
+    };
+    tries(
+        &rt,
+        "tests::over_tables::readings::report_of_a_later_day",
+        reading,
+    )
 }
