@@ -4,7 +4,8 @@ The day stands in bin/lib/clients/day.txt: orders, repeats, readings, a queued o
 order file, refusals. Each client must get the same replies, status and body. To one order the first reply is lost, and
 a proxy's 502, 503 and 504 follow: the client sends the same order again until it is answered. Then it is looked what
 curl and wget do by themselves where a reply is lost. Where nginx is installed the banks' requests go through it too,
-with the configuration of deploy/. Needs the five clients; `--only NAME` tries one alone.
+with the configuration of deploy/, and a reply that is lost is a 502 of nginx itself. Needs the five clients;
+`--only NAME` tries one alone.
 """
 import contextlib
 import json
@@ -86,14 +87,20 @@ class Day:
         desks.new_book(book, desks.KEYS, 150)
         # (the reply that is lost is one more connection of the desk)
         with desks.Server(book, len(self.steps) + 1) as server, contextlib.ExitStack() as both:
-            relay = both.enter_context(relays.Relay(server.port, UNLUCKY, desks.SECONDS))
-            nginx = both.enter_context(proxies.Nginx(self.folder, server.port)) if self.is_by_nginx else None
+            relay = both.enter_context(relays.Relay(server.port, self.luck(), desks.SECONDS))
+            nginx = both.enter_context(proxies.Nginx(self.folder, relay.port)) if self.is_by_nginx else None
             env = {**os.environ, **(nginx.trusted() if nginx else {})}
             found, said = asked(self.name, [it.line(url_for(it, server, relay, nginx)) for it in self.steps], env)
             self.compares(found, said)
-            self.report.sees(f"{self.title}: connections of one order", relay.had, len(UNLUCKY) + 1)
+            by_relay = len([it for it in self.steps if is_relayed(it, self.is_by_nginx)])
+            self.report.sees(f"{self.title}: connections of the relay", relay.had, len(UNLUCKY) + by_relay)
             # (a client that broke off has left connections over)
             server.kill()
+
+    def luck(self):
+        """Returns what becomes of the relay's first connections: those of the unlucky order come to harm."""
+        at = [it.is_unlucky for it in self.steps if is_relayed(it, self.is_by_nginx)].index(True)
+        return [None] * at + [*UNLUCKY]
 
     def compares(self, found, said):
         """Compares the replies with those of the day."""
@@ -104,11 +111,16 @@ class Day:
             self.report.finds(f"{self.title} says: {said.strip()}")
 
 
+def is_relayed(step, is_by_nginx):
+    """Returns whether a request passes the relay: through nginx all of banks do, and else the unlucky one alone."""
+    return step.who != "OPERATOR" if is_by_nginx else step.is_unlucky
+
+
 def url_for(step, server, relay, nginx):
-    """Returns where a request is sent. The operator asks the desk itself, and so does the relay."""
-    if step.is_unlucky:
-        return f"http://127.0.0.1:{relay.port}"
-    return nginx.url if nginx and step.who != "OPERATOR" else f"http://127.0.0.1:{server.port}"
+    """Returns where a request is sent. The operator asks the desk itself."""
+    if not is_relayed(step, bool(nginx)):
+        return f"http://127.0.0.1:{server.port}"
+    return nginx.url if nginx else f"http://127.0.0.1:{relay.port}"
 
 
 class Alone:

@@ -2,10 +2,11 @@
 
 Each round starts the server over one book, sends orders one after another, holds it still at a random moment by
 SIGSTOP, copies the book's file and its log, and kills the server. The copy must have every order whose reply came, and
-at most one more. The check ends at the first round where that is not so.
+at most one more. The check ends at the first round where that is not so. It tells how long the server was held still.
 """
 import shutil
 import signal
+import statistics
 import time
 
 from lib import desks
@@ -19,10 +20,18 @@ def options(words):
 
 
 def run(given, report):
+    pauses = []
+
+    def copy(server, book):
+        start = time.monotonic()
+        copy_held_still(server, book)
+        pauses.append(1000 * (time.monotonic() - start))
+
     kills.kill_again_and_again(given.rounds, report, "copies and kills", copy, COPY)
+    report.finds(f"held still for {statistics.median(pauses):.0f} ms ({min(pauses):.0f} to {max(pauses):.0f})")
 
 
-def copy(server, book):
+def copy_held_still(server, book):
     """Copies the book's two files while the server is held still."""
     server.send_signal(signal.SIGSTOP)
     while state_of(server) not in "TZ":

@@ -90,7 +90,8 @@ class Behind:
 
 def closed(it):
     """The operator's routes are closed, however their paths are written."""
-    for path in ("/desk/resolve", "/desk/report/2024-03-04", "//desk/resolve", "/%64esk/resolve", "/x/../desk/resolve"):
+    for path in ("/desk/resolve", "/desk/report/2024-03-04", "/desk/accounts", "//desk/resolve", "/%64esk/resolve",
+                 "/x/../desk/resolve"):
         words = ["-d", "{}"] if path.endswith("resolve") else []
         it.sees(f"the operator at {path}", it.asked(path, *words, key=desks.OPERATOR), (403, JSON, NO_KEY))
 

@@ -37,10 +37,19 @@ class Kills(unittest.TestCase):
     def test_two_orders_without_a_reply_end_the_check(self):
         self.assertEqual(self.found([3], [5]).wrong, 1)
 
-    def test_a_copy_is_looked_at_in_place_of_the_book(self):
-        with mock.patch.object(kills, "kill_again_and_again") as called:
-            copies.run(mock.Mock(rounds=5), None)
-        called.assert_called_once_with(5, None, "copies and kills", copies.copy, ".copy")
+    def test_a_copy_is_looked_at_in_place_of_the_book_and_the_pause_is_told(self):
+        report = quiet()
+
+        def kills_twice(rounds, same, what, before_a_kill, end):
+            self.assertEqual((rounds, same, what, end), (5, report, "copies and kills", ".copy"))
+            before_a_kill("a server", "a book")
+            before_a_kill("a server", "a book")
+
+        with mock.patch.object(kills, "kill_again_and_again", side_effect=kills_twice), \
+                mock.patch.object(copies, "copy_held_still") as held:
+            copies.run(mock.Mock(rounds=5), report)
+        self.assertEqual(held.call_args_list, [mock.call("a server", "a book")] * 2)
+        self.assertRegex(report.found[-1], r"^held still for \d+ ms \(\d+ to \d+\)$")
 
 
 class Documents(unittest.TestCase):

@@ -121,8 +121,18 @@ class Clients(unittest.TestCase):
         bank, operator = mock.Mock(who="ALFA", is_unlucky=False), mock.Mock(who="OPERATOR", is_unlucky=False)
         unlucky = mock.Mock(who="ALFA", is_unlucky=True)
         urls = [clients.url_for(it, server, relay, nginx) for it in (bank, operator, unlucky)]
-        self.assertEqual(urls, ["https://a", "http://127.0.0.1:1", "http://127.0.0.1:2"])
-        self.assertEqual(clients.url_for(bank, server, relay, None), "http://127.0.0.1:1")
+        self.assertEqual(urls, ["https://a", "http://127.0.0.1:1", "https://a"])
+        urls = [clients.url_for(it, server, relay, None) for it in (bank, operator, unlucky)]
+        self.assertEqual(urls, ["http://127.0.0.1:1", "http://127.0.0.1:1", "http://127.0.0.1:2"])
+
+    def test_the_unlucky_order_alone_comes_to_harm(self):
+        for is_by_nginx in (False, True):
+            it = clients.Day("curl", is_by_nginx, "/a", quiet())
+            luck = it.luck()
+            relayed = [step for step in it.steps if clients.is_relayed(step, is_by_nginx)]
+            self.assertTrue(relayed[len(luck) - len(clients.UNLUCKY)].is_unlucky)
+            self.assertEqual(luck[-len(clients.UNLUCKY):], list(clients.UNLUCKY))
+            self.assertEqual(len(luck) > len(clients.UNLUCKY), is_by_nginx)
 
 
 if __name__ == "__main__":
