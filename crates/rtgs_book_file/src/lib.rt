@@ -1,11 +1,13 @@
 //! The file of a book: its lock, and the desk over it.
 #![tactic(auto)]
 
+mod book_file;
 mod book_lock;
 mod cause;
 mod closed_book;
 mod closed_files;
 mod file_fault;
+mod file_on_disk;
 mod files_gone;
 mod finished_book;
 mod given_up_book;
@@ -26,6 +28,7 @@ mod store;
 mod unopened;
 mod unread;
 
+pub use crate::book_file::BookFile;
 pub use crate::book_lock::BookLock;
 pub use crate::closed_book::ClosedBook;
 pub use crate::closed_files::ClosedFiles;

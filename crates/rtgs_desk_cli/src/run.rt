@@ -1,6 +1,6 @@
 //! One run of the program.
 ghost use Rattle.std.specs.Prelude.{◌≡◌, ⊤, Result, IfOk, IfErr};
-ghost use Rattle.rtgs_book_file.specs.OverFile.{file_from};
+ghost use Rattle.rtgs_book_file.specs.OverFile.{over};
 ghost use Rattle.clap.specs.Words.{kind_of};
 ghost use Rattle.rtgs_output.specs.declared.WriterFailed.{WriterFailed};
 ghost use Rattle.rtgs_desk_lines.specs.Failures.{failure_line as refusal_line};
@@ -11,7 +11,7 @@ ghost use Rattle.rtgs_desk_cli.specs.Runs.{AreExplained, Ends, EndsAfter, IsDeni
 use crate::acting::{RunMet, act};
 use clap::Error;
 use clap::error::ErrorKind;
-use rtgs_book_file::{FileKeeper, Start};
+use rtgs_book_file::BookFile;
 use rtgs_desk_arguments::{Asked, read_words};
 use rtgs_desk_files::{Acted, Touched, Traces};
 use rtgs_desk_lines::{Ended, Failure, Printed};
@@ -57,17 +57,16 @@ fn refused<E: Write>(failure: Failure, err: &mut E) -> Ended
 }
 
 /// Reads the words' forms, and does what they ask for.
-fn obey<S: Start, O: Write>(
+fn obey<B: BookFile, O: Write>(
     rt: &HostRuntime,
     words: &Words<'_>,
-    start: S,
+    start: B,
     out: &mut O,
-) -> Acted<S, RunMet>
+) -> Acted<B, RunMet>
     ensures printed { IfOk result.0 (λ printed. IsObeyed
-        (file_from ⟦<FileKeeper<S> as Keeper>⟧ S.Start (λ keeper. keeper.conn)) words.now result.1 printed
+        (over ⟦<B::Kept as Keeper>⟧ B.facts) words.now result.1 printed
         (O.contents out.old) (O.contents out.new)) }
-    ensures refused { IfErr result.0 (λ why. IsDenied (file_from ⟦<FileKeeper<S> as Keeper>⟧ S.Start
-        (λ keeper. keeper.conn)) O.contents words.now result.1 why out.old out.new) }
+    ensures refused { IfErr result.0 (λ why. IsDenied (over ⟦<B::Kept as Keeper>⟧ B.facts) O.contents words.now result.1 why out.old out.new) }
 {
     match Request::read(words) {
         Ok(request) => act(rt, &request, start, out),
@@ -76,14 +75,14 @@ fn obey<S: Start, O: Write>(
 }
 
 /// Does what the words of a command line ask for that was read so, and tells how that ended, and what was touched.
-fn end<S: Start, O: Write, E: Write>(
+fn end<B: BookFile, O: Write, E: Write>(
     rt: &HostRuntime,
     read: Result<Option<Asked<'_>>, Error>,
-    start: S,
+    start: B,
     out: &mut O,
     err: &mut E,
-) -> (Ended, Traces<S, RunMet>)
-    ensures { EndsAfter (file_from ⟦<FileKeeper<S> as Keeper>⟧ S.Start (λ keeper. keeper.conn))
+) -> (Ended, Traces<B, RunMet>)
+    ensures { EndsAfter (over ⟦<B::Kept as Keeper>⟧ B.facts)
         read.entry O.contents E.contents result.0 result.1 out.old out.new err.old err.new }
 {
     match read {
@@ -109,14 +108,14 @@ fn end<S: Start, O: Write, E: Write>(
 /// help are printed on `out`, refusals and faults of the command line on `err`, each line with its end. A statement is
 /// printed row by row, so that rows of it can stand on `out` where it is then refused. The result says what became of
 /// that, and has the exit status; and beside it stands what the run touched of the file.
-pub fn run_words<S: Start, O: Write, E: Write>(
+pub fn run_words<B: BookFile, O: Write, E: Write>(
     rt: &HostRuntime,
     words: &[&str],
-    start: S,
+    start: B,
     out: &mut O,
     err: &mut E,
-) -> (Ended, Traces<S, RunMet>)
-    ensures { Ends (file_from ⟦<FileKeeper<S> as Keeper>⟧ S.Start (λ keeper. keeper.conn))
+) -> (Ended, Traces<B, RunMet>)
+    ensures { Ends (over ⟦<B::Kept as Keeper>⟧ B.facts)
         O.contents E.contents result.0 result.1 out.old out.new err.old err.new }
 {
     end(rt, read_words(rt.alloc(), words), start, out, err)

@@ -6,8 +6,6 @@ mod files;
 mod met;
 mod touched;
 
-pub use crate::files::{
-    Acted, Closed, Finished, Traces, close_book, failure_of_unopened, make, migrate, open,
-};
+pub use crate::files::{Acted, Closed, Finished, Traces, close_book, failure_of_refused};
 pub use crate::met::Met;
 pub use crate::touched::Touched;
