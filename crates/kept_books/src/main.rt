@@ -7,7 +7,6 @@ use sqlite::Unknown;
 use std::alloc::{AllocError, Global};
 use std::io::{self, Write};
 
-/// The words of a line.
 fn words_of(alloc: Global, line: &str) -> Result<Vec<&str>, AllocError> {
     line.split(' ').collect(alloc)
 }

@@ -28,7 +28,6 @@ has_key key a = bytes_eq a.participant.key key
 abbrev pub balance_of : Account → ℤ
 balance_of a = a.balance
 
--- codes rise strictly
 abbrev pub CodesRiseStrictly : List Account → Type 0
 CodesRiseStrictly accounts = IsStrictlySortedBy (slice_cmp nat_cmp) (map code_of accounts)
 

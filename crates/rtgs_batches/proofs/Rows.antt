@@ -77,40 +77,40 @@ pub orders_at_stop : (sender : List ℕ) (rows : List OrderRow) (at : ℕ) (row 
     (refusal : Refusal) → at < length rows → row ≡ get_or rows at row → length replies ≡ at
     → orders_of sender (take (length (replies ++ Err refusal ∷ [])) rows)
     ≡ orders_of sender (take at rows) ++ order_of sender row ∷ []
-orders_at_stop sender rows at row replies refusal within is told =
+orders_at_stop sender rows at row replies refusal within is counted =
     let done : take (at + 1) rows ≡ take at rows ++ row ∷ [] = take_more rows at row within
     ∙ ap (λ x. take at rows ++ x ∷ []) (sym is) in
     let long : length (replies ++ Err refusal ∷ [])
-    ≡ at + 1 = omega (arith, told, length-append replies (Err refusal ∷ [])) in
+    ≡ at + 1 = omega (arith, counted, length-append replies (Err refusal ∷ [])) in
     rw (long, done, map-append (order_of sender) (take at rows) (row ∷ [])) refl
 
 orders_so_far : (sender : List ℕ) (rows : List OrderRow) (at : ℕ) (replies : List Reply) → at < length rows
     → length replies ≡ at → length (orders_of sender (take at rows)) ≡ length replies
-orders_so_far sender rows at replies within told = length-map (take at rows) (order_of sender)
-    ∙ length-take-le at rows (omega (arith, within)) ∙ sym told
+orders_so_far sender rows at replies within counted = length-map (take at rows) (order_of sender)
+    ∙ length-take-le at rows (omega (arith, within)) ∙ sym counted
 
 -- the order that may be open is the one at which the batch stopped
 pub open_at_stop : (sender : List ℕ) (rows : List OrderRow) (at : ℕ) (row : OrderRow) (replies : List Reply)
     (refusal : Refusal) → at < length rows → row ≡ get_or rows at row → length replies ≡ at → AreJudged replies
     → open_order sender rows replies (Some refusal) ≡ open_command (order_of sender row ∷ []) (Err refusal ∷ [])
-open_at_stop sender rows at row replies refusal within is told all =
+open_at_stop sender rows at row replies refusal within is counted all =
     ap (λ commands. open_command commands (replies ++ Err refusal ∷ []))
-    (orders_at_stop sender rows at row replies refusal within is told)
+    (orders_at_stop sender rows at row replies refusal within is counted)
     ∙ open_last (orders_of sender (take at rows)) replies (order_of sender row) (Err refusal)
-    (orders_so_far sender rows at replies within told) all
+    (orders_so_far sender rows at replies within counted) all
 
 -- all orders of a batch that did not stop
 pub orders_at_end : (sender : List ℕ) (rows : List OrderRow) (replies : List Reply) → length replies ≡ length rows
     → orders_of sender (take (length replies) rows) ≡ orders_of sender rows
-orders_at_end sender rows replies told = ap (orders_of sender)
-    (take_all (length replies) rows (omega (arith, told)))
+orders_at_end sender rows replies counted = ap (orders_of sender)
+    (take_all (length replies) rows (omega (arith, counted)))
 
 -- none of them is open
 pub open_at_end : (sender : List ℕ) (rows : List OrderRow) (replies : List Reply) → length replies ≡ length rows
     → AreJudged replies → open_order sender rows replies None ≡ None
-open_at_end sender rows replies told all = ap (λ commands. open_command commands replies)
-    (orders_at_end sender rows replies told) ∙ none_open (orders_of sender rows) replies
-    (length-map rows (order_of sender) ∙ sym told) all
+open_at_end sender rows replies counted all = ap (λ commands. open_command commands replies)
+    (orders_at_end sender rows replies counted) ∙ none_open (orders_of sender rows) replies
+    (length-map rows (order_of sender) ∙ sym counted) all
 
 -- ---- sessions
 
@@ -152,10 +152,10 @@ pub session_at_end : (sender : List ℕ) (rows : List OrderRow) (replies : List 
       replies = replies;
       found = found;
     })
-session_at_end sender rows replies old last found told all run may =
-    let whole : take (length replies) rows ≡ rows = take_all (length replies) rows (omega (arith, told)) in
-    let same = orders_at_end sender rows replies told in
-    let long : length (orders_of sender rows) ≡ length replies = length-map rows (order_of sender) ∙ sym told in
+session_at_end sender rows replies old last found counted all run may =
+    let whole : take (length replies) rows ≡ rows = take_all (length replies) rows (omega (arith, counted)) in
+    let same = orders_at_end sender rows replies counted in
+    let long : length (orders_of sender rows) ≡ length replies = length-map rows (order_of sender) ∙ sym counted in
     let many : length (orders_of sender (take (length replies) rows))
     ≡ length replies = ap length same ∙ long in
     record {
@@ -180,9 +180,9 @@ pub session_at_stop : (sender : List ℕ) (rows : List OrderRow) (at : ℕ) (row
       replies = replies ++ Err refusal ∷ [];
       found = found;
     })
-session_at_stop sender rows at row replies refusal old last found within is told all unjudged run may =
-    let same = orders_at_stop sender rows at row replies refusal within is told in
-    let long = orders_so_far sender rows at replies within told in
+session_at_stop sender rows at row replies refusal old last found within is counted all unjudged run may =
+    let same = orders_at_stop sender rows at row replies refusal within is counted in
+    let long = orders_so_far sender rows at replies within counted in
     let many : length (orders_of sender (take (length (replies ++ Err refusal ∷ [])) rows))
     ≡ length (replies ++ Err refusal ∷ []) =
     ap length same ∙ omega (

@@ -78,8 +78,8 @@ pub sent_at_end : {K : Type 0} (g : Ghosts K) → Laws → (old last : Book) (se
     → Run old (orders_of sender (take (length given) rows)) given last → Holds g desk last
     → ((found : Book) → g.leaves desk.keeper found → found ≡ last) → g.is_whole desk.keeper
     → Sent g old sender rows replies None desk
-sent_at_end g laws old last sender rows replies given desk sound calm shown told all run held leaves whole =
-    let none = open_at_end sender rows given told all in
+sent_at_end g laws old last sender rows replies given desk sound calm shown counted all run held leaves whole =
+    let none = open_at_end sender rows given counted all in
     let shortened = subst (λ n. Run old (orders_of sender (take n rows)) given last) (as_many given replies shown)
     run in
     let may : (found : Book) → g.leaves desk.keeper found → MayFind last (open_order sender rows given None) found =
@@ -94,11 +94,11 @@ sent_at_end g laws old last sender rows replies given desk sound calm shown told
       resumed = λ later end again once room. laws.resumed old last later end sender rows (length given) given again once
           sound room run;
       resumed_after_a_crash = λ found later end again once room. laws.stopped old last found later end sender rows
-          given None again once sound room all told run;
+          given None again once sound room all counted run;
       kept = λ works. held;
       none_open = λ works. none;
       after_a_crash = may;
-      session = λ found left. session_at_end sender rows given old last found told all run (may found left);
+      session = λ found left. session_at_end sender rows given old last found counted all run (may found left);
       whole_after_a_crash = whole;
       calm_after_a_crash = λ found left. subst IsCalm (sym (leaves found left))
           ((laws.lasts old last (orders_of sender (take (length given) rows)) given sound run).calm calm);
@@ -111,14 +111,15 @@ pub sent_at_stop : {K : Type 0} (g : Ghosts K) → Laws → (old last : Book) (s
     → map own_of given ≡ replies_of replies → length given ≡ at → AreJudged given → is_judged (Err refusal) ≡ false
     → Run old (orders_of sender (take at rows)) given last
     → Acts g last (order_of sender row) (Err refusal) desk → Sent g old sender rows replies (Some refusal) desk
-sent_at_stop g laws old last sender rows at row replies given refusal desk sound calm within is shown told all unjudged
+sent_at_stop g laws old last sender rows at row replies given refusal desk sound calm within is shown counted all
+    unjudged
     run acts =
     let same : acts.book ≡ last = acts.unjudged unjudged in
     let begun : Run old (orders_of sender (take (length given) rows)) given last =
-    subst (λ n. Run old (orders_of sender (take n rows)) given last) (sym told) run in
+    subst (λ n. Run old (orders_of sender (take n rows)) given last) (sym counted) run in
     let shortened = subst (λ n. Run old (orders_of sender (take n rows)) given last) (as_many given replies shown)
     begun in
-    let opened = open_at_stop sender rows at row given refusal within is told all in
+    let opened = open_at_stop sender rows at row given refusal within is counted all in
     let may : (found : Book) → g.leaves desk.keeper found → MayFind last (open_order sender rows given (Some refusal))
     found =
     λ found left. subst (λ o. MayFind last o found) (sym opened)
@@ -133,11 +134,11 @@ sent_at_stop g laws old last sender rows at row replies given refusal desk sound
       resumed = λ later end again once room. laws.resumed old last later end sender rows (length given) given again once
           sound room begun;
       resumed_after_a_crash = λ found later end again once room. laws.stopped old last found later end sender rows
-          given (Some refusal) again once sound room all (omega (arith, within, told), unjudged) begun;
+          given (Some refusal) again once sound room all (omega (arith, within, counted), unjudged) begun;
       kept = λ works. subst (Holds g desk) same (acts.kept works);
       none_open = λ works. opened ∙ acts.none_open works;
       after_a_crash = may;
-      session = λ found left. session_at_stop sender rows at row given refusal old last found within is told all
+      session = λ found left. session_at_stop sender rows at row given refusal old last found within is counted all
           unjudged run (may found left);
       whole_after_a_crash = acts.whole_after_a_crash;
       calm_after_a_crash = acts.calm_after_a_crash;

@@ -29,7 +29,7 @@ all_has P [] x all there = absurd there
 all_has P (y ∷ ys) x all (inl same) = subst P same all.0
 all_has P (y ∷ ys) x all (inr later) = all_has P ys x all.1 later
 
--- the mark with a number bears the date that one of the marks with this number bears
+-- the mark with a number has the date that one of the marks with this number has
 dated : (number date first : ℕ) (marks : List Mark)
     → map (λ (m : Mark). m.number) marks ≡ range_with_len first (length marks)
     → list_any (is_dated number date) marks ≡ true → (mark : Mark) → Has marks mark → mark.number ≡ number

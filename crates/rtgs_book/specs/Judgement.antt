@@ -33,7 +33,6 @@ rule_number StoredBalances = 14
 rule_number AutomaticDay = 15
 rule_number Calm = 16
 
--- the book keeps the rule
 abbrev pub Keeps : Book → Rule → Type 0
 Keeps book OrderNumbers = OrdersAreNumbered book
 Keeps book PostingNumbers = PostingsAreNumbered book

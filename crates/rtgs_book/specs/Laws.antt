@@ -26,7 +26,7 @@ pub record KeepsWhatIsFinal (old new : Book) : Type 0 where
   pub marks : (later : List Mark) × (new.marks ≡ old.marks ++ later)
   pub orders : (o : Order) → Has old.orders o → is_settled o ≡ true → Has new.orders o
 
--- the amount that a command bears is in its range
+-- the amount of a command is in its range
 abbrev pub CommandFits : Command → Type 0
 CommandFits (SetCredit code credit) = IsCredit credit
 CommandFits (Post code reference cents) = IsPostingAmount cents

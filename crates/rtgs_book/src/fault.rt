@@ -9,9 +9,7 @@ use std::alloc::{AllocError, AllocFailed};
 /// Why there is no book.
 #[derive(Clone, Copy, Debug, PartialEq, Eq)]
 pub enum Fault {
-    /// Memory was refused.
     OutOfMemory,
-    /// The store failed.
     StoreFault,
     /// What is stored is no desk's tables.
     NotADeskFile,

@@ -11,8 +11,8 @@ pub struct Order {
     pub reference: Reference,
     pub receiver: Code,
     pub amount: Amount,
-    /// Its business date. An order with a due date bears that date until it enters its queue, and then the date on
-    /// which it entered. Any other order bears the date on which it was accepted.
+    /// Its business date. An order with a due date has that date until it enters its queue, and then the date on
+    /// which it entered. Any other order has the date on which it was accepted.
     pub date: BusinessDate,
     /// The business date before which it does not enter its queue, where its sender named one.
     pub due: Option<BusinessDate>,

@@ -19,6 +19,5 @@ pub enum Reading {
     Queue { code: Code },
     /// The statement of a participant for a date.
     Statement { code: Code, date: BusinessDate },
-    /// The report of a date.
     Report { date: BusinessDate },
 }

@@ -50,9 +50,7 @@ pub enum Refusal {
     Overdrawn { first: Code, count: u64 },
     /// The due date is not later than the day's.
     DueNotLater,
-    /// Memory was refused.
     OutOfMemory,
-    /// The store failed.
     StoreFault,
     /// The store had failed before.
     Failed,

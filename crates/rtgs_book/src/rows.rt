@@ -19,7 +19,6 @@ impl<T> Model for Rows<T> {
 }
 
 impl<T> Rows<T> {
-    /// No records.
     pub fn new(alloc: Global) -> Self
         ensures { result ≡ [] }
     {

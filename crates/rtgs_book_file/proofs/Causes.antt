@@ -10,7 +10,8 @@ use Rattle.rtgs_keeper.specs.declared.keeper.Keeper.{Ghosts}
 use Rattle.rtgs_book_file.specs.Causes.{fault_of_cause, ShowsNoBook, BarsBook}
 use Rattle.rtgs_book_file.specs.Refused.{IsNotLocked, IsNotVacant, HasNoBook, IsNotMade, IsUnopened, IsUnmadeIn}
 use Rattle.rtgs_book_file.specs.declared.cause.Cause.{Cause}
-use Rattle.rtgs_book_file.specs.declared.cause.Cause.TheVariants.{NotLocked, NotVacant, Unread, NotReached, GivenUp}
+use Rattle.rtgs_book_file.specs.declared.cause.Cause.TheVariants.{NotLocked, NotVacant, NotReadable, NotReached}
+use Rattle.rtgs_book_file.specs.declared.cause.Cause.TheVariants.{Abandoned}
 use Rattle.rtgs_book_file.specs.declared.file_fault.FileFault.{FileFault}
 use Rattle.rtgs_book_file.specs.declared.file_fault.FileFault.TheVariants.{InUse, FileExists, Book}
 
@@ -40,21 +41,21 @@ module _ {K D : Type 0} {g : disk.Ghosts D} (k : Ghosts K) (conn : K → Held (F
         → (fault : Fault) × (fault_of_cause cause ≡ Book fault) × HasNoBook k conn held fault
     shows_none (NotLocked refused) why = absurd why
     shows_none (NotVacant taken) why = absurd why
-    shows_none (Unread unread) why = (unread.fault, refl, inl why)
+    shows_none (NotReadable unread) why = (unread.fault, refl, inl why)
     shows_none (NotReached unreached) why = (unreached.fault, refl, inr (inl why))
-    shows_none (GivenUp fault closed) why = (fault, refl, inr (inr (files_of closed, why)))
+    shows_none (Abandoned fault closed) why = (fault, refl, inr (inr (files_of closed, why)))
 
     pub opens_none : (cause : Cause B) → ShowsNoBook k conn held files_of cause
         → IsUnopened k conn held (fault_of_cause cause)
     opens_none (NotLocked refused) why = absurd why
     opens_none (NotVacant taken) why = absurd why
-    opens_none (Unread unread) why = inr (inl why)
+    opens_none (NotReadable unread) why = inr (inl why)
     opens_none (NotReached unreached) why = inr (inr (inl why))
-    opens_none (GivenUp fault closed) why = inr (inr (inr (files_of closed, why)))
+    opens_none (Abandoned fault closed) why = inr (inr (inr (files_of closed, why)))
 
     pub bars : (cause : Cause B) → BarsBook k conn held files_of cause → IsNotMade k conn held (fault_of_cause cause)
     bars (NotLocked refused) why = absurd why
     bars (NotVacant taken) why = not_vacant taken.fault why
-    bars (Unread unread) why = absurd why
+    bars (NotReadable unread) why = absurd why
     bars (NotReached unreached) why = inr (inl why)
-    bars (GivenUp fault closed) why = inr (inr (files_of closed, why))
+    bars (Abandoned fault closed) why = inr (inr (files_of closed, why))

@@ -20,8 +20,8 @@ use Rattle.rtgs_book.specs.declared.fault.Fault.TheVariants.{OutOfMemory, StoreF
 use Rattle.rtgs_book_file.specs.declared.file_fault.FileFault.{FileFault}
 use Rattle.rtgs_book_file.specs.declared.file_fault.FileFault.TheVariants.{InUse, Book}
 use Rattle.rtgs_book_file.specs.declared.limits.TheConstants.{MOST_OBJECTS}
-use Rattle.rtgs_book_file.specs.declared.listed.Listed.{Listed}
-use Rattle.rtgs_book_file.specs.declared.listed.Listed.TheVariants.{Objects, WithoutSums, Unknown}
+use Rattle.rtgs_book_file.specs.declared.object_count.ObjectCount.{ObjectCount}
+use Rattle.rtgs_book_file.specs.declared.object_count.ObjectCount.TheVariants.{Objects, WithoutSums, Unknown}
 
 -- no file, or a fault: memory was refused, or the path cannot be looked at
 abbrev pub vacancy_without : ErrorKind → Result Bool Fault
@@ -51,7 +51,7 @@ opening_of (Ok bytes) = if bytes_eq bytes magic then Ok tt else Err NotADeskFile
 opening_of (Err error) = Err (fault_of_reading (error_kind error))
 
 -- a file of which this was read may be a desk's
-abbrev pub MayBeADesks : Listed → Type 0
+abbrev pub MayBeADesks : ObjectCount → Type 0
 MayBeADesks (Objects count) = count ≤ MOST_OBJECTS
 MayBeADesks WithoutSums = ⊥
 MayBeADesks Unknown = Unit {0}

@@ -21,7 +21,7 @@ use Rattle.rtgs_book_file.specs.Closed.{LeavesClosed}
 use Rattle.rtgs_book_file.specs.Files.{lock_name, IsOfLock}
 use Rattle.rtgs_book_file.specs.Opened.{WasOpened, WasMade, WasMigrated}
 use Rattle.rtgs_book_file.specs.declared.file_fault.FileFault.{FileFault}
-use Rattle.rtgs_book_file.specs.declared.let_go.LetGo.{LetGo}
+use Rattle.rtgs_book_file.specs.declared.released.Released.{Released}
 use Rattle.rtgs_book_file.specs.declared.unopened.Unopened.{Unopened}
 
 -- the file of a book, whose keeper is a K; a U is the file over which no desk was opened, and a C the one that was
@@ -43,7 +43,7 @@ pub record OverFile (K U C : Type 0) : Type 1 where
   pub was_migrated : Bool → C → Type 0
   -- its tables were not brought to the newest version, and what refused it
   pub was_unmigrated : U → Type 0
-  -- how it is told that no desk was opened over it, no book made in it, or its tables were not brought on
+  -- the fault that is reported where no desk was opened over it, no book made in it, or its tables not brought on
   pub fault_of : U → FileFault
   -- it is the file at this path, as its lock is named
   pub refused_at : List ℕ → U → Type 0
@@ -56,7 +56,7 @@ pub record OverFile (K U C : Type 0) : Type 1 where
 abbrev pub file_from : {K S : Type 0} → Ghosts K → (first : start.Ghosts S)
     → {g : disk.Ghosts (Modelled Host S host_calls.ghosts first)}
     → (K → Held (FileStore (Modelled Host S host_calls.ghosts first) g))
-    → OverFile K (Unopened S first) (LetGo S first)
+    → OverFile K (Unopened S first) (Released S first)
 file_from k first {g} conn = record {
   keeper = k;
   was_opened = λ desk. WasOpened k (image_at first) desk (conn desk.keeper);

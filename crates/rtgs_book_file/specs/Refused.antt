@@ -27,8 +27,8 @@ use Rattle.rtgs_book_file.specs.Files.{vacancy_of, opening_of, fault_of_store}
 use Rattle.rtgs_book_file.specs.declared.file_fault.FileFault.{FileFault}
 use Rattle.rtgs_book_file.specs.declared.file_fault.FileFault.TheVariants.{InUse, FileExists, Book}
 use Rattle.rtgs_book_file.specs.declared.limits.TheConstants.{MOST_OBJECTS}
-use Rattle.rtgs_book_file.specs.declared.listed.Listed.{Listed}
-use Rattle.rtgs_book_file.specs.declared.listed.Listed.TheVariants.{Objects, WithoutSums, Unknown}
+use Rattle.rtgs_book_file.specs.declared.object_count.ObjectCount.{ObjectCount}
+use Rattle.rtgs_book_file.specs.declared.object_count.ObjectCount.TheVariants.{Objects, WithoutSums, Unknown}
 
 -- another run holds the lock, or it cannot be made; or memory was wanting for it
 abbrev pub IsNotLocked : FileFault → Type 0
@@ -51,14 +51,14 @@ abbrev pub IsOfItsBeginning : Fault → Type 0
 IsOfItsBeginning fault = (beginning : Result (List ℕ) Error) × (opening_of beginning ≡ Err fault)
 
 -- the file lists more objects than a desk's file does, or its pages are to end in sums and do not
-abbrev pub IsCrowded : Listed → Fault → Type 0
+abbrev pub IsCrowded : ObjectCount → Fault → Type 0
 IsCrowded (Objects count) fault = (MOST_OBJECTS < count) × (fault ≡ NotADeskFile)
 IsCrowded WithoutSums fault = fault ≡ NotADeskFile
 IsCrowded Unknown fault = ⊥
 
 -- a look at the file showed the one or the other
 abbrev pub ShowsFault : Fault → Type 0
-ShowsFault fault = IsOfItsBeginning fault ⊎ ((listed : Listed) × IsCrowded listed fault)
+ShowsFault fault = IsOfItsBeginning fault ⊎ ((listed : ObjectCount) × IsCrowded listed fault)
 
 -- no file was opened: it cannot be, memory was wanting, or another program has it open
 abbrev pub IsOutOfReach : SqlError → Type 0
@@ -77,7 +77,7 @@ pub record FailsOver {D : Type 0} (g : disk.Ghosts D) (held : Image) (error : Sq
 -- the store did not open
 pub record IsNoBook {D : Type 0} (g : disk.Ghosts D) (held : Image) (fault : Fault) : Type 0 where
   pub error : SqlError
-  pub told : fault ≡ fault_of_store error
+  pub reported : fault ≡ fault_of_store error
   pub named : IsTrue (is_open_error error)
   pub why : IsOutOfReach error ⊎ FailsOver g held error
 
@@ -92,7 +92,7 @@ pub record WasUnmigrated {D : Type 0} (g : disk.Ghosts D) (held : Image) (fault 
     -- so what the files held explains the fault, and a stop leaves it, or what a migration makes of it
     pub refused : HasCleanDisk (file_state left) → IsUnmigrated (file_state was) fault (file_state left)
     -- and a crash leaves no more of the files than the connection could
-    pub given_up : LeavesNoMore left files
+    pub abandoned : LeavesNoMore left files
 
 module _ {K D : Type 0} {g : disk.Ghosts D} (k : Ghosts K) (conn : K → Held (FileStore D g)) (held : Image) where
   -- the store opened, the desk did not, and these files are left
@@ -104,11 +104,11 @@ module _ {K D : Type 0} {g : disk.Ghosts D} (k : Ghosts K) (conn : K → Held (F
     pub found : HasCleanDisk (file_state (conn left)) → FindsIn held (file_state was)
     -- so what the files held explains the fault, and a stop leaves it
     pub refused : HasCleanDisk (file_state (conn left)) → IsRefused (file_state was) fault (file_state (conn left))
-    -- a fault of the store is told where the keeper has failed, and not else
+    -- a fault of the store is reported where the keeper has failed, and not else
     pub failed : fault ≡ StoreFault → k.has_failed left ≡ true
     pub works : fault ≢ StoreFault → k.has_failed left ≡ false
     -- and a crash leaves no more of the files than the keeper could
-    pub given_up : LeavesNoMore (conn left) files
+    pub abandoned : LeavesNoMore (conn left) files
 
   -- the store opened, no tables were made, and these files are left
   pub record WasUnmade (fault : Fault) (files : Files D) : Type 0 where
@@ -123,7 +123,7 @@ module _ {K D : Type 0} {g : disk.Ghosts D} (k : Ghosts K) (conn : K → Held (F
     -- over one that has none, a stop leaves none, or those of the new book
     pub refused : HasCleanDisk (file_state left) → HasNoSchema (file_state was) → IsUnmade fault (file_state left)
     -- and a crash leaves no more of the files than the connection could
-    pub given_up : LeavesNoMore left files
+    pub abandoned : LeavesNoMore left files
 
   -- why a file whose lock was taken is no book's
   abbrev pub HasNoBook : Fault → Type 0

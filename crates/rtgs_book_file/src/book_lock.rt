@@ -33,7 +33,7 @@ impl<'a, S: Start> BookLock<'a, S> {
     pub fn take(rt: &HostRuntime, path: &'a str, start: S) -> Result<BookLock<'a, S>, Unopened<S>>
         ensures refused { IfErr result (λ unopened. IsNotLocked unopened.fault) }
         ensures cause { IfErr result (λ unopened. IsOfItsLock unopened.cause) }
-        ensures told { IfErr result (λ unopened. unopened.fault ≡ fault_of_cause unopened.cause) }
+        ensures reported { IfErr result (λ unopened. unopened.fault ≡ fault_of_cause unopened.cause) }
         ensures of { IfErr result (λ unopened.
             IsOfLock (λ name. string_bytes name.value) path.now unopened.name unopened.fault) }
         ensures unopened { IfErr result (λ unopened. IsUnopened ⟦<FileKeeper<S> as Keeper>⟧ (λ keeper. keeper.conn)

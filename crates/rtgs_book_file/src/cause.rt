@@ -6,12 +6,12 @@ ghost use Rattle.rtgs_book_file.specs.declared.cause.Cause.TheVariants as cause;
 use crate::file_fault::FileFault;
 use crate::not_locked::NotLocked;
 use crate::not_reached::NotReached;
+use crate::not_readable::NotReadable;
 use crate::not_vacant::NotVacant;
-use crate::unread::Unread;
 use rtgs_book::Fault;
 
 /// What refused a book's file. All but the last are made of the system's answers alone. `B` is what is left of a file
-/// that was given up.
+/// that was abandoned.
 #[derive(Drop)]
 pub(crate) enum Cause<B> {
     /// The lock was not taken.
@@ -19,24 +19,24 @@ pub(crate) enum Cause<B> {
     /// A book was to be made where something stands, or where no look could be taken.
     NotVacant(NotVacant),
     /// The file does not begin as a database does, or its beginning could not be read.
-    Unread(Unread),
+    NotReadable(NotReadable),
     /// The store did not open.
     NotReached(NotReached),
-    /// The store opened, and was given up with this fault.
-    GivenUp(Fault, B),
+    /// The store opened, and was abandoned with this fault.
+    Abandoned(Fault, B),
 }
 
 impl<B> Cause<B> {
-    /// How it is told.
+    /// The fault that it is reported as.
     pub(crate) fn fault(&self) -> FileFault
         ensures { result ≡ fault_of_cause self.now }
     {
         match self {
             Cause::NotLocked(refused) => refused.fault(),
             Cause::NotVacant(taken) => taken.fault(),
-            Cause::Unread(unread) => FileFault::from(unread.fault()),
+            Cause::NotReadable(unread) => FileFault::from(unread.fault()),
             Cause::NotReached(unreached) => FileFault::from(unreached.fault()),
-            Cause::GivenUp(fault, _) => FileFault::from(*fault),
+            Cause::Abandoned(fault, _) => FileFault::from(*fault),
         }
     }
 }
@@ -49,11 +49,11 @@ impl<B> From<NotVacant> for Cause<B> {
     }
 }
 
-impl<B> From<Unread> for Cause<B> {
-    ghost from_gives = { λ unread answer. answer ≡ cause.Unread unread };
+impl<B> From<NotReadable> for Cause<B> {
+    ghost from_gives = { λ unread answer. answer ≡ cause.NotReadable unread };
 
-    fn from(unread: Unread) -> Cause<B> {
-        Cause::Unread(unread)
+    fn from(unread: NotReadable) -> Cause<B> {
+        Cause::NotReadable(unread)
     }
 }
 

@@ -5,10 +5,10 @@ ghost use Rattle.rtgs_book_file.specs.Closed.{LeavesClosed};
 use crate::closed_files::ClosedFiles;
 use crate::files_gone::FilesGone;
 use crate::held_lock::HeldLock;
-use crate::let_go::LetGo;
+use crate::released::Released;
 use sqlite::{Connection, FileFrom, FileStore, Start};
 
-/// What is left of a book's file that was closed, and its lock. As the lock cannot be dropped, it ends by `let_go`
+/// What is left of a book's file that was closed, and its lock. As the lock cannot be dropped, it ends by `release`
 /// alone.
 pub struct ClosedBook<S: Start> {
     files: ClosedFiles<FileFrom<S>>,
@@ -33,13 +33,13 @@ impl<S: Start> ClosedBook<S> {
     }
 
     /// Lets the files go, and then the lock.
-    pub fn let_go(self) -> LetGo<S>
+    pub fn release(self) -> Released<S>
         ensures files { result.files.value ≡ self.files }
         ensures name { result.name.value ≡ self.lock.locked.name }
     {
         let ClosedBook { files, lock } = self;
         let gone = FilesGone::of(files);
-        let name = lock.let_go(&gone);
-        LetGo::of(gone, name)
+        let name = lock.release(&gone);
+        Released::of(gone, name)
     }
 }

@@ -5,14 +5,13 @@ use crate::files_gone::FilesGone;
 use crate::locked::Locked;
 use std::snapshot::Snapshot;
 
-/// The lock of a book's file whose store is opened. It cannot be dropped: it ends by `let_go` alone, which takes files
+/// The lock of a book's file whose store is opened. It cannot be dropped: it ends by `release` alone, which takes files
 /// that are gone. So the lock is held until then.
 pub(crate) struct HeldLock {
     locked: Locked,
 }
 
 impl HeldLock {
-    /// This lock, held.
     pub(crate) fn of(locked: Locked) -> HeldLock
         ensures { result.locked ≡ locked }
     {
@@ -20,7 +19,7 @@ impl HeldLock {
     }
 
     /// Lets the lock go, now that the files are gone. Its name, as contracts see it.
-    pub(crate) fn let_go<F: Drop>(self, _gone: &FilesGone<F>) -> Snapshot<String>
+    pub(crate) fn release<F: Drop>(self, _gone: &FilesGone<F>) -> Snapshot<String>
         ensures { result.value ≡ self.locked.name }
     {
         let HeldLock { locked } = self;

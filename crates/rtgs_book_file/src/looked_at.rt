@@ -5,9 +5,9 @@ ghost use Rattle.rtgs_book_file.specs.Refused.{IsBarredBy, IsCrowded};
 
 use crate::book_lock::BookLock;
 use crate::locked::Locked;
+use crate::not_readable::NotReadable;
 use crate::not_vacant::NotVacant;
 use crate::schema_size::SchemaSize;
-use crate::unread::Unread;
 use sqlite::Start;
 use std::fs::Metadata;
 use std::io;
@@ -39,24 +39,24 @@ impl<'a, S: Start> LookedAt<'a, S> {
     pub(crate) fn if_database(
         lock: BookLock<'a, S>,
         beginning: io::Result<[u8; 16]>,
-    ) -> Result<LookedAt<'a, S>, Unread>
+    ) -> Result<LookedAt<'a, S>, NotReadable>
         ensures database { IfOk result (λ _. opening_of beginning ≡ Ok tt) }
         ensures refused { IfErr result (λ unread. opening_of beginning ≡ Err unread.fault) }
         ensures same { IfOk result (λ file. file.lock ≡ lock.entry) }
     {
-        match Unread::unless_database(beginning) {
+        match NotReadable::unless_database(beginning) {
             Ok(()) => Ok(LookedAt { lock }),
             Err(unread) => Err(unread),
         }
     }
 
     /// The same, where this was read of what the file lists, and a desk's file may list that.
-    pub(crate) fn if_few(self, size: SchemaSize) -> Result<LookedAt<'a, S>, Unread>
+    pub(crate) fn if_few(self, size: SchemaSize) -> Result<LookedAt<'a, S>, NotReadable>
         ensures few { OnOk result (MayBeADesks size.listed) }
         ensures refused { IfErr result (λ unread. IsCrowded size.listed unread.fault) }
         ensures same { IfOk result (λ file. file.lock ≡ self.entry.lock) }
     {
-        match Unread::unless_crowded(size) {
+        match NotReadable::unless_crowded(size) {
             Ok(()) => Ok(self),
             Err(unread) => Err(unread),
         }

@@ -4,9 +4,9 @@ ghost use Rattle.rtgs_book_file.specs.Refused.{IsNotVacant, ShowsFault};
 
 use crate::book_lock::BookLock;
 use crate::looked_at::LookedAt;
+use crate::not_readable::NotReadable;
 use crate::not_vacant::NotVacant;
 use crate::schema_size::listed;
-use crate::unread::Unread;
 use sqlite::{Start, Unknown};
 use std::fs::File;
 use std::io::Read;
@@ -25,7 +25,7 @@ impl<'a, S: Start> BookLock<'a, S> {
 
     /// Looks whether the file begins as a database does, and whether it lists no more objects than a desk's may: a
     /// fault where it does not, is missing or shorter, or cannot be read.
-    pub(crate) fn with_database(self, rt: &HostRuntime) -> Result<LookedAt<'a, S>, Unread>
+    pub(crate) fn with_database(self, rt: &HostRuntime) -> Result<LookedAt<'a, S>, NotReadable>
         ensures refused { IfErr result (λ unread. ShowsFault unread.fault) }
         ensures same { IfOk result (λ file. file.lock ≡ self.entry) }
     {

@@ -4,12 +4,12 @@ ghost use Rattle.sqlite.specs.WalFiles.{image_at};
 ghost use Rattle.rtgs_book_file.specs.Causes.{fault_of_cause, BarsMigration};
 ghost use Rattle.rtgs_book_file.specs.Opened.{WasMigrated};
 
+use crate::abandoned_book::AbandonedBook;
 use crate::book_lock::BookLock;
 use crate::cause::Cause;
 use crate::closed_book::ClosedBook;
-use crate::given_up_book::GivenUpBook;
-use crate::let_go::LetGo;
 use crate::looked_at::LookedAt;
+use crate::released::Released;
 use crate::store::connect;
 use crate::unopened::Unopened;
 use sqlite::{FileFrom, Start};
@@ -20,13 +20,13 @@ impl<S: Start> BookLock<'_, S> {
     /// lets the lock go. Whether anything was written: tables of the newest version stay as they are. A fault where
     /// there is no book, or none that is sound, or where the store fails. No desk is opened: that could be refused when
     /// the tables were written.
-    pub fn migrate(self, rt: &HostRuntime) -> Result<(LetGo<S>, bool), Unopened<S>>
+    pub fn migrate(self, rt: &HostRuntime) -> Result<(Released<S>, bool), Unopened<S>>
         ensures migrated { IfOk result (λ (migrated, wrote).
             WasMigrated ⟦<FileFrom<S> as Disk>⟧ (image_at S.Start) wrote migrated.files.value) }
         ensures held { IfOk result (λ (migrated, _). migrated.name.value ≡ self.entry.locked.name) }
         ensures cause { IfErr result (λ unmigrated. BarsMigration ⟦<FileFrom<S> as Disk>⟧ (image_at S.Start)
             (λ closed. closed.files.value) unmigrated.cause) }
-        ensures told { IfErr result (λ unmigrated. unmigrated.fault ≡ fault_of_cause unmigrated.cause) }
+        ensures reported { IfErr result (λ unmigrated. unmigrated.fault ≡ fault_of_cause unmigrated.cause) }
         ensures of { IfErr result (λ unmigrated. (name : _) × (unmigrated.name ≡ Some name)
             × (name.value ≡ self.entry.locked.name)) }
     {
@@ -42,7 +42,7 @@ impl<S: Start> BookLock<'_, S> {
 fn migrate_book<S: Start>(
     rt: &HostRuntime,
     lock: BookLock<'_, S>,
-) -> Result<(LetGo<S>, bool), Cause<GivenUpBook<S>>>
+) -> Result<(Released<S>, bool), Cause<AbandonedBook<S>>>
     ensures migrated { IfOk result (λ (migrated, wrote).
         WasMigrated ⟦<FileFrom<S> as Disk>⟧ (image_at S.Start) wrote migrated.files.value) }
     ensures held { IfOk result (λ (migrated, _). migrated.name.value ≡ lock.entry.locked.name) }
@@ -57,7 +57,7 @@ fn migrate_book<S: Start>(
 fn migrate_tables<S: Start>(
     rt: &HostRuntime,
     file: LookedAt<'_, S>,
-) -> Result<(LetGo<S>, bool), Cause<GivenUpBook<S>>>
+) -> Result<(Released<S>, bool), Cause<AbandonedBook<S>>>
     ensures migrated { IfOk result (λ (migrated, wrote).
         WasMigrated ⟦<FileFrom<S> as Disk>⟧ (image_at S.Start) wrote migrated.files.value) }
     ensures held { IfOk result (λ (migrated, _). migrated.name.value ≡ file.entry.lock.locked.name) }
@@ -66,7 +66,7 @@ fn migrate_tables<S: Start>(
 {
     let (mut conn, lock) = connect(rt, file)?;
     match rtgs_stored_desk::migrate(rt.alloc(), &mut conn) {
-        Ok(wrote) => Ok((ClosedBook::copied(conn, lock).let_go(), wrote)),
-        Err(fault) => Err(Cause::GivenUp(fault, GivenUpBook::of(conn, lock))),
+        Ok(wrote) => Ok((ClosedBook::copied(conn, lock).release(), wrote)),
+        Err(fault) => Err(Cause::Abandoned(fault, AbandonedBook::of(conn, lock))),
     }
 }

@@ -21,7 +21,7 @@ pub(crate) struct NotLocked {
 }
 
 impl NotLocked {
-    /// How it is told.
+    /// The fault that it is reported as.
     pub(crate) fn fault(&self) -> FileFault
         ensures { result ≡ self.now.fault }
     {

@@ -21,7 +21,7 @@ impl NotReached {
         }
     }
 
-    /// How it is told.
+    /// The fault that it is reported as.
     pub(crate) fn fault(&self) -> Fault
         ensures { result ≡ self.now.fault }
     {

@@ -32,7 +32,7 @@ impl NotVacant {
         }
     }
 
-    /// How it is told.
+    /// The fault that it is reported as.
     pub(crate) fn fault(&self) -> FileFault
         ensures { result ≡ self.now.fault }
     {

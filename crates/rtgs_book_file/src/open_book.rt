@@ -11,14 +11,14 @@ ghost use Rattle.rtgs_book_file.specs.Opened.{WasOpened, WasMade};
 ghost use Rattle.rtgs_book_file.specs.Refused.{HasNoBook, IsNotMade, IsUnopened, IsUnmadeIn};
 ghost use Rattle.rtgs_book_file.specs.Causes.{fault_of_cause, ShowsNoBook, BarsBook};
 
+use crate::abandoned_book::AbandonedBook;
 use crate::book_lock::BookLock;
 use crate::cause::Cause;
 use crate::closed_book::ClosedBook;
 use crate::finished_book::FinishedBook;
-use crate::given_up_book::GivenUpBook;
 use crate::held_lock::HeldLock;
-use crate::let_go::LetGo;
 use crate::looked_at::LookedAt;
+use crate::released::Released;
 use crate::store::{FileKeeper, connect};
 use crate::unopened::Unopened;
 use rtgs_desk::Desk;
@@ -43,7 +43,7 @@ impl<S: Start> BookLock<'_, S> {
             × HasNoBook ⟦<FileKeeper<S> as Keeper>⟧ (λ keeper. keeper.conn) (image_at S.Start) fault) }
         ensures cause { IfErr result (λ unopened. ShowsNoBook ⟦<FileKeeper<S> as Keeper>⟧ (λ keeper. keeper.conn)
             (image_at S.Start) (λ closed. closed.files.value) unopened.cause) }
-        ensures told { IfErr result (λ unopened. unopened.fault ≡ fault_of_cause unopened.cause) }
+        ensures reported { IfErr result (λ unopened. unopened.fault ≡ fault_of_cause unopened.cause) }
         ensures of { IfErr result (λ unopened. (name : _) × (unopened.name ≡ Some name)
             × (name.value ≡ self.entry.locked.name)) }
         ensures unopened { IfErr result (λ unopened.
@@ -58,7 +58,7 @@ impl<S: Start> BookLock<'_, S> {
 
     /// Makes the tables of a new book in the file, closes it, and lets the lock go. `FileExists` where the file holds
     /// anything, and a fault of the book where the file cannot be looked at, or the store fails.
-    pub fn make(self, rt: &HostRuntime) -> Result<LetGo<S>, Unopened<S>>
+    pub fn make(self, rt: &HostRuntime) -> Result<Released<S>, Unopened<S>>
         ensures made { IfOk result (λ made. WasMade ⟦<FileKeeper<S> as Keeper>⟧ (λ keeper. keeper.conn)
             (image_at S.Start) made.files.value) }
         ensures held { IfOk result (λ made. made.name.value ≡ self.entry.locked.name) }
@@ -66,7 +66,7 @@ impl<S: Start> BookLock<'_, S> {
             IsNotMade ⟦<FileKeeper<S> as Keeper>⟧ (λ keeper. keeper.conn) (image_at S.Start) unopened.fault) }
         ensures cause { IfErr result (λ unopened. BarsBook ⟦<FileKeeper<S> as Keeper>⟧ (λ keeper. keeper.conn)
             (image_at S.Start) (λ closed. closed.files.value) unopened.cause) }
-        ensures told { IfErr result (λ unopened. unopened.fault ≡ fault_of_cause unopened.cause) }
+        ensures reported { IfErr result (λ unopened. unopened.fault ≡ fault_of_cause unopened.cause) }
         ensures of { IfErr result (λ unopened. (name : _) × (unopened.name ≡ Some name)
             × (name.value ≡ self.entry.locked.name)) }
         ensures unmade { IfErr result (λ unopened.
@@ -103,7 +103,7 @@ impl<K: Keeper> OpenBook<K> {
 fn open_book<S: Start>(
     rt: &HostRuntime,
     lock: BookLock<'_, S>,
-) -> Result<OpenBook<FileKeeper<S>>, Cause<GivenUpBook<S>>>
+) -> Result<OpenBook<FileKeeper<S>>, Cause<AbandonedBook<S>>>
     ensures opened { IfOk result (λ book. HasCleanDisk (file_state book.desk.keeper.conn)
         → WasOpened ⟦<FileKeeper<S> as Keeper>⟧ (image_at S.Start) book.desk book.desk.keeper.conn) }
     ensures held { IfOk result (λ book. book.lock.locked ≡ lock.entry.locked) }
@@ -118,7 +118,7 @@ fn open_book<S: Start>(
 fn open_desk<S: Start>(
     rt: &HostRuntime,
     file: LookedAt<'_, S>,
-) -> Result<OpenBook<FileKeeper<S>>, Cause<GivenUpBook<S>>>
+) -> Result<OpenBook<FileKeeper<S>>, Cause<AbandonedBook<S>>>
     ensures opened { IfOk result (λ book. HasCleanDisk (file_state book.desk.keeper.conn)
         → WasOpened ⟦<FileKeeper<S> as Keeper>⟧ (image_at S.Start) book.desk book.desk.keeper.conn) }
     ensures held { IfOk result (λ book. book.lock.locked ≡ file.entry.lock.locked) }
@@ -129,8 +129,8 @@ fn open_desk<S: Start>(
     match rtgs_stored_desk::open(rt.alloc(), conn) {
         Ok(desk) => Ok(OpenBook { desk, lock }),
         Err((fault, keeper)) => {
-            let left = GivenUpBook::of(keeper.into_connection(), lock);
-            Err(Cause::GivenUp(fault, left))
+            let left = AbandonedBook::of(keeper.into_connection(), lock);
+            Err(Cause::Abandoned(fault, left))
         }
     }
 }
@@ -139,7 +139,7 @@ fn open_desk<S: Start>(
 fn make_book<S: Start>(
     rt: &HostRuntime,
     lock: BookLock<'_, S>,
-) -> Result<LetGo<S>, Cause<GivenUpBook<S>>>
+) -> Result<Released<S>, Cause<AbandonedBook<S>>>
     ensures made { IfOk result (λ closed.
         WasMade ⟦<FileKeeper<S> as Keeper>⟧ (λ keeper. keeper.conn) (image_at S.Start) closed.files.value) }
     ensures held { IfOk result (λ closed. closed.name.value ≡ lock.entry.locked.name) }
@@ -154,7 +154,7 @@ fn make_book<S: Start>(
 fn make_tables<S: Start>(
     rt: &HostRuntime,
     file: LookedAt<'_, S>,
-) -> Result<LetGo<S>, Cause<GivenUpBook<S>>>
+) -> Result<Released<S>, Cause<AbandonedBook<S>>>
     ensures made { IfOk result (λ closed.
         WasMade ⟦<FileKeeper<S> as Keeper>⟧ (λ keeper. keeper.conn) (image_at S.Start) closed.files.value) }
     ensures held { IfOk result (λ closed. closed.name.value ≡ file.entry.lock.locked.name) }
@@ -163,7 +163,7 @@ fn make_tables<S: Start>(
 {
     let (conn, lock) = connect(rt, file)?;
     match rtgs_stored_desk::make(conn) {
-        Ok(made) => Ok(ClosedBook::copied(made, lock).let_go()),
-        Err((fault, left)) => Err(Cause::GivenUp(fault, GivenUpBook::of(left, lock))),
+        Ok(made) => Ok(ClosedBook::copied(made, lock).release()),
+        Err((fault, left)) => Err(Cause::Abandoned(fault, AbandonedBook::of(left, lock))),
     }
 }

@@ -5,7 +5,7 @@ ghost use Rattle.sqlite.specs.WalFiles.{image_at};
 ghost use Rattle.sqlite_store.specs.Unopened.{AreUsable, image, state_of};
 ghost use Rattle.rtgs_book_file.specs.Counting.{Counts, IsReadIn};
 
-use crate::listed::Listed;
+use crate::object_count::ObjectCount;
 use sqlite::{FileFrom, Files, Options, Start};
 use sqlite_disk::Disk;
 use sqlite_pager::Pager;
@@ -26,12 +26,11 @@ const KEPT_PAGES: usize = 16;
 /// What was read of how many objects a file lists. Only `listed` gives one, and what the store read, only `counted`.
 #[derive(Clone, Copy, Debug)]
 pub(crate) struct SchemaSize {
-    listed: Listed,
+    listed: ObjectCount,
 }
 
 impl SchemaSize {
-    /// What was read.
-    pub(crate) fn listed(self) -> Listed
+    pub(crate) fn listed(self) -> ObjectCount
         ensures { result ≡ self.listed }
     {
         self.listed
@@ -39,10 +38,10 @@ impl SchemaSize {
 
     // That nothing was read.
     fn unknown() -> SchemaSize
-        ensures { result.listed ≡ Listed.Unknown }
+        ensures { result.listed ≡ ObjectCount.Unknown }
     {
         SchemaSize {
-            listed: Listed::Unknown,
+            listed: ObjectCount::Unknown,
         }
     }
 }
@@ -57,7 +56,6 @@ pub(crate) fn listed<S: Start>(rt: &HostRuntime, path: &str, start: S) -> Schema
     }
 }
 
-// What these files list.
 fn listed_in<D: Disk + Drop>(alloc: Global, files: Files<D>) -> SchemaSize
     ensures { IsReadIn D.Disk (image_of D.Disk files) result.listed }
 {
@@ -73,9 +71,9 @@ fn counted<D: Disk>(files: &mut Unopened<D>, has_sums: bool) -> SchemaSize
     ensures { IsTrue (state_of files.new).is_clean → Counts files.old files.new has_sums result.listed }
 {
     let listed = match files.read_catalog() {
-        Ok(rows) => Listed::Objects(rows.len()),
-        Err(OpenError::Refused) if has_sums => Listed::WithoutSums,
-        Err(_) => Listed::Unknown,
+        Ok(rows) => ObjectCount::Objects(rows.len()),
+        Err(OpenError::Refused) if has_sums => ObjectCount::WithoutSums,
+        Err(_) => ObjectCount::Unknown,
     };
     SchemaSize { listed }
 }

@@ -35,7 +35,7 @@ pub(crate) fn connect<S: Start>(
     match Connection::open_from(rt, path, false, start) {
         Ok(conn) => Ok((conn, lock)),
         Err((error, left)) => {
-            let _name = lock.let_go(&FilesGone::of(left));
+            let _name = lock.release(&FilesGone::of(left));
             Err(NotReached::of(&error))
         }
     }

@@ -2,36 +2,35 @@
 ghost use Rattle.std.specs.Prelude.{◌≡◌};
 ghost use Rattle.rtgs_book_file.specs.Causes.{fault_of_cause};
 
+use crate::abandoned_book::AbandonedBook;
 use crate::cause::Cause;
 use crate::file_fault::FileFault;
-use crate::given_up_book::GivenUpBook;
 use sqlite::Start;
 use std::fmt;
 use std::snapshot::Snapshot;
 
-/// A book's file over which no desk was opened, how that is told, and what refused it. Only a lock that was not taken,
-/// or that did not lead to a desk, makes one, and each of them took the only `Start` of its run: so a run that has this
-/// value has opened no desk over the file, and opens none. Where the store was opened, its files were let go, and then
-/// its lock. Contracts name the file by the name of its lock, as far as memory was had for that.
+/// A book's file over which no desk was opened, the fault that is reported, and what refused it. Only a lock that was
+/// not taken, or that did not lead to a desk, makes one, and each of them took the only `Start` of its run: so a run
+/// that has this value has opened no desk over the file, and opens none. Where the store was opened, its files were let
+/// go, and then its lock. Contracts name the file by the name of its lock, as far as memory was had for that.
 #[derive(Drop)]
 pub struct Unopened<S: Start> {
     fault: FileFault,
-    cause: Cause<GivenUpBook<S>>,
+    cause: Cause<AbandonedBook<S>>,
     name: Option<Snapshot<String>>,
 }
 
 impl<S: Start> Unopened<S> {
     /// No desk was opened over the file whose lock has this name, for this.
-    pub(crate) fn of(name: Option<Snapshot<String>>, cause: Cause<GivenUpBook<S>>) -> Unopened<S>
+    pub(crate) fn of(name: Option<Snapshot<String>>, cause: Cause<AbandonedBook<S>>) -> Unopened<S>
         ensures cause { result.cause ≡ cause }
-        ensures told { result.fault ≡ fault_of_cause cause }
+        ensures reported { result.fault ≡ fault_of_cause cause }
         ensures name { result.name ≡ name }
     {
         let fault = cause.fault();
         Unopened { fault, cause, name }
     }
 
-    /// Why.
     pub fn fault(&self) -> FileFault
         ensures { result ≡ self.now.fault }
     {

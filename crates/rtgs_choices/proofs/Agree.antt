@@ -21,7 +21,7 @@ use Rattle.rtgs_gridlock.specs.Choices.{sum_below, queue_of, payment_count, sent
 use Rattle.rtgs_gridlock.specs.Laws.{order_count, value_of}
 use Rattle.rtgs_choices.specs.ByIndex.{code_at, positions_of, payment_of, queues_of, by_code}
 use Rattle.rtgs_choices.proofs.Sums.{sum_below-same, sum_below-bound}
-use Rattle.rtgs_choices.proofs.Told.{length-queues, queue_at, by_code-at}
+use Rattle.rtgs_choices.proofs.Inputs.{length-queues, queue_at, by_code-at}
 use Rattle.rtgs_choices.proofs.Chosen.{ChosenAreBeginnings, Agree, sum_by-chosen, sum_by-beginning, after_is}
 
 -- as many payments as the book has queued for the participant

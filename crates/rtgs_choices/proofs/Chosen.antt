@@ -20,7 +20,7 @@ use Rattle.rtgs_gridlock.specs.declared.queues.Payment.{Payment}
 use Rattle.rtgs_gridlock.specs.Choices.{sum_below, queue_of, amount_to, sent, received, after}
 use Rattle.rtgs_choices.specs.ByIndex.{code_at, index_of, positions_of, payment_of, queues_of}
 use Rattle.rtgs_choices.proofs.Sums.{sum_below-same, sum_by-map, sum_by-same, sum_by-filter, sum_by-parts}
-use Rattle.rtgs_choices.proofs.Told.{length-queues, position_at, queue_at, is_at, HasIndexes, parties_have_indexes}
+use Rattle.rtgs_choices.proofs.Inputs.{length-queues, position_at, queue_at, is_at, HasIndexes, parties_have_indexes}
 use Rattle.rtgs_lists.proofs.Lists.{all_filter, all_weaker}
 
 -- of each queue just the first orders are chosen, as many as the choice says

@@ -11,7 +11,7 @@ use Rattle.rtgs_book.specs.Choice.{Choice, balance_after, IsFeasible, IsGreatest
 use Rattle.rtgs_book.specs.Soundness.{IsSound}
 use Rattle.rtgs_gridlock.specs.Choices as resolver
 use Rattle.rtgs_choices.specs.ByIndex.{code_at, index_of, positions_of, queues_of, by_code}
-use Rattle.rtgs_choices.proofs.Told.{length-queues, index_of-lt, code_at-index_of, by_code-at, no_queue}
+use Rattle.rtgs_choices.proofs.Inputs.{length-queues, index_of-lt, code_at-index_of, by_code-at, no_queue}
 use Rattle.rtgs_choices.proofs.Agree.{queue_length}
 use Rattle.rtgs_choices.proofs.Chosen.{ChosenAreBeginnings, floor_is, after_is}
 

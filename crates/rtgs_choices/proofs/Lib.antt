@@ -7,5 +7,5 @@ pub mod Resolution
 pub mod Rows
 pub mod Sums
 pub mod Taken
-pub mod Told
+pub mod Inputs
 pub mod Joining

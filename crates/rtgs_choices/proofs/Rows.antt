@@ -24,7 +24,7 @@ use Rattle.rtgs_book.specs.Settle.{in_state, restated, settle, mark_of, next_mar
 use Rattle.rtgs_book.specs.Changes.{with_row, changed, or_else, balance_set, SetsBalances, StartsEmpty}
 use Rattle.rtgs_choices.specs.OneByOne.{ChangesOrders, passes_one}
 use Rattle.rtgs_choices.specs.Settling.{is_numbered, state_rows, IsOfBalance, moves, balance_rows, settling_rows}
-use Rattle.rtgs_choices.proofs.Told.{in_codes}
+use Rattle.rtgs_choices.proofs.Inputs.{in_codes}
 use Rattle.rtgs_lists.proofs.Lists.{all_weaker, changed_agrees, changed_twice}
 
 -- ---- rows that change orders, one by one

@@ -20,7 +20,7 @@ use Rattle.rtgs_gridlock.specs.Choices.{sum_below}
 use Rattle.rtgs_choices.specs.ByIndex.{code_at}
 use Rattle.rtgs_choices.specs.Settling.{orders_taken, numbers_taken, is_numbered}
 use Rattle.rtgs_choices.proofs.Agree.{length_is}
-use Rattle.rtgs_choices.proofs.Told.{HasIndexes, parties_have_indexes}
+use Rattle.rtgs_choices.proofs.Inputs.{HasIndexes, parties_have_indexes}
 use Rattle.rtgs_choices.proofs.Chosen.{ChosenAreBeginnings, gets, gives, gains_are, sum_by-senders, sum_by-chosen}
 use Rattle.rtgs_lists.proofs.Lists.{all_both, all_filter, all_weaker}
 use Rattle.rtgs_lists.proofs.Numbers.{eq_self, not_below}
@@ -66,7 +66,6 @@ any-map p f (x ∷ xs) = ap (λ (t : Bool). p (f x) || t) (any-map p f xs)
 abbrev number_of : Order → ℕ
 number_of o = o.number
 
--- numbers rise
 abbrev Rises : List Order → Type 0
 Rises [] = Unit {0}
 Rises (o ∷ os) = AllByRecursion (λ (x : Order). o.number < x.number) os × Rises os

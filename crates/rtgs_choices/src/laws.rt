@@ -37,7 +37,7 @@ ghost use Rattle.rtgs_choices.specs.Joining.{joined_rows};
 
 use rtgs_book::laws::{balance_after_restating, chosen_are_beginnings, settled_balances};
 
-/// What the resolver is told of a sound book meets its conditions, with `MOST_QUEUED` payments at most.
+/// What the resolver is given of a sound book meets its conditions, with `MOST_QUEUED` payments at most.
 pub fn conditions_hold()
     ensures positions { (book : Book) → length (positions_of book) ≡ length (accounts book) }
     ensures queues { (book : Book) → length (queues_of book) ≡ length (accounts book) }

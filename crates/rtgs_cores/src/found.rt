@@ -1,7 +1,7 @@
 //! What is looked up for a command.
 use rtgs_book::{Order, Posting};
 
-/// What was looked up for a command before it is prepared: the order or the posting that bears its reference, where
+/// What was looked up for a command before it is prepared: the order or the posting that has its reference, where
 /// there is one.
 #[derive(Clone, Copy, Debug)]
 pub struct Found {

@@ -18,7 +18,6 @@ use Rattle.rtgs_desk.specs.LookUps.{LooksUp, refusal_of}
 use Rattle.rtgs_desk.specs.Seen.{Seen}
 use Rattle.rtgs_desk.proofs.HoldingLemmas.{in_memory, holding, works_held, keeps_held, calm_held}
 
--- the keeper's laws
 pub record KeeperLaws {K : Type 0} (g : Ghosts K) : Type 0 where
   pub settled : (k : K) (book other : Book) → g.content k book → g.leaves k other → other ≡ book
   pub whole : (k : K) (book : Book) → g.content k book → g.is_whole k
@@ -56,7 +55,6 @@ failed_before {K} g laws keeper core desk failed view says fails =
       kinds = λ e. absurd (cc);
     }
 
--- nothing is looked up
 pub looks_at_nothing : {K : Type 0} (g : Ghosts K) → KeeperLaws g → (keeper : K) (core : Core) (desk : Seen K)
     (failed : Bool) → record { keeper = keeper; core = core } ≡ desk → failed ≡ g.has_failed keeper → failed ≡ false
     → LooksUp g desk desk None
@@ -142,7 +140,6 @@ module _ {K : Type 0} (g : Ghosts K) (laws : KeeperLaws g) {X : Type 0} (keeper 
     kinds = λ f. inr refl;
   }
 
-  -- it met a fault
   pub not_looked_up : (met : Fault) → result ≡ Err met
       → LooksUp g old (record { keeper = new; core = core }) (Some (refusal_of met))
   not_looked_up faults.OutOfMemory e = seen (Some OutOfMemory)
@@ -151,10 +148,10 @@ module _ {K : Type 0} (g : Ghosts K) (laws : KeeperLaws g) {X : Type 0} (keeper 
   not_looked_up faults.NotADeskFile e = absurd (looks.kinds.0 e)
   not_looked_up (faults.Inconsistent rule) e = absurd (looks.kinds.1 rule e)
 
--- that a desk had failed is told by one that had
-told_failed : {K : Type 0} (g : Ghosts K) (old new : Seen K) (ended : Option Refusal) → LooksUp g old new ended
+-- that a desk had failed is answered by one that had
+had_failed : {K : Type 0} (g : Ghosts K) (old new : Seen K) (ended : Option Refusal) → LooksUp g old new ended
     → ended ≡ Some Failed → g.has_failed old.keeper ≡ true
-told_failed g old new ended looked is = by (g.has_failed old.keeper) refl
+had_failed g old new ended looked is = by (g.has_failed old.keeper) refl
   where
     by : (b : Bool) → g.has_failed old.keeper ≡ b → g.has_failed old.keeper ≡ true
     by true failed = failed
@@ -172,7 +169,7 @@ reads g old new ended looked = record {
   fault = looked.fault;
   only_fault = looked.only_fault;
   failed = λ failed. (looked.failed failed).1;
-  only_failed = told_failed g old new ended looked;
+  only_failed = had_failed g old new ended looked;
   kinds = looked.kinds;
   failed_kinds = λ failed. subst (λ o. IfSome o (λ refusal. (refusal ≡ OutOfMemory) ⊎ (refusal ≡ Failed)))
       (sym (looked.failed failed).0) (inr refl);

@@ -72,7 +72,6 @@ fn reference_argument<'a>(alloc: Global) -> Arg<'a>
     )
 }
 
-/// A business date.
 fn date_argument<'a>(alloc: Global) -> Arg<'a>
     ensures rule { rule_of result ≡ line.word (codes "date") }
     ensures local { result.global ≡ false }
@@ -179,7 +178,6 @@ fn file_word<'a>(matches: &ArgMatches<'a>) -> &'a str
     word(matches, "file")
 }
 
-/// The words of a command.
 fn command_words<'a>(name: &str, given: &ArgMatches<'a>) -> Option<CommandWords<'a>>
     ensures { IsChosen (IsCommand name.now (rows_of (found_of given.now))) result }
 {
@@ -196,7 +194,6 @@ fn command_words<'a>(name: &str, given: &ArgMatches<'a>) -> Option<CommandWords<
     }
 }
 
-/// The words of a reading.
 fn reading_words<'a>(name: &str, given: &ArgMatches<'a>) -> Option<ReadingWords<'a>>
     ensures { IsChosen (AreWordsOfReading name.now (rows_of (found_of given.now))) result }
 {

@@ -75,7 +75,6 @@ pub fn serve_command<'a>(alloc: Global) -> Result<Command<'a>, AllocError>
         .arg(key_option(alloc))
 }
 
-/// The port that was given.
 fn port_number(given: &ArgMatches<'_>) -> Option<u16>
     ensures { IsChosen (IsNumber 16 (rows_of (found_of given.now)) (codes "port")) result }
 {

@@ -16,7 +16,7 @@ use Rattle.rtgs_desk_requests.specs.declared.words.Words.{Words}
 use Rattle.rtgs_desk_requests.specs.declared.request.Request.{Request}
 use Rattle.rtgs_desk_requests.specs.declared.request.Request.TheVariants.{Make, Migrate, Submit, Import, Read, Serve}
 use Rattle.rtgs_desk_lines.specs.Failures.{failure_line as refusal_line}
-use Rattle.rtgs_desk_lines.specs.Told.{IsTold}
+use Rattle.rtgs_desk_lines.specs.SentTo.{IsSentTo}
 use Rattle.rtgs_desk_lines.specs.declared.ended.Ended.{Ended}
 use Rattle.rtgs_desk_lines.specs.declared.ended.Ended.TheVariants as ended
 use Rattle.rtgs_desk_lines.specs.declared.failure.Failure.{Failure}
@@ -27,7 +27,7 @@ use Rattle.rtgs_http_server.specs.declared.port.Port.{Port}
 use Rattle.rtgs_book_file.specs.OverFile.{OverFile}
 use Rattle.rtgs_desk_files.specs.Printing.{ended_line, PrintsText}
 use Rattle.rtgs_desk_files.specs.Touching.{IsNoBookMade, IsNotMigrated, IsOf, IsUntouched}
-use Rattle.rtgs_desk_files.specs.declared.met.Met.{Met}
+use Rattle.rtgs_desk_files.specs.declared.used.Used.{Used}
 use Rattle.rtgs_desk_files.specs.declared.touched.Touched.{Touched}
 use Rattle.rtgs_desk_commands.specs.Commands.{HasMade, HasMigrated, HasAnswered, IsNotAnswered}
 use Rattle.rtgs_desk_imports.specs.Imports.{HasSent, IsNotImported}
@@ -46,21 +46,22 @@ is_help _ = false
 -- fault of the command line on the second alone. Lack of memory is refused, and can come in place of both.
 abbrev pub IsExplained : {O E : Type 0} → ErrorKind → (O → Option (List ℕ)) → (E → Option (List ℕ)) → Ended → O → O → E
     → E → Type 0
-IsExplained what contents told (ended.Printed printed) out out' err err' = ⊥
-IsExplained what contents told (ended.Helped sent) out out' err err' =
-    (is_help what ≡ true) × ((text : List ℕ) × IsTold sent (contents out) (contents out') text) × (err' ≡ err)
-IsExplained what contents told (ended.Refused failure sent) out out' err err' =
-    (failure ≡ Refused OutOfMemory) × IsTold sent (told err) (told err') (ended_line (refusal_line failure))
+IsExplained what contents reported (ended.Printed printed) out out' err err' = ⊥
+IsExplained what contents reported (ended.Helped sent) out out' err err' =
+    (is_help what ≡ true) × ((text : List ℕ) × IsSentTo sent (contents out) (contents out') text) × (err' ≡ err)
+IsExplained what contents reported (ended.Refused failure sent) out out' err err' =
+    (failure ≡ Refused OutOfMemory) × IsSentTo sent (reported err) (reported err') (ended_line (refusal_line failure))
     × (out' ≡ out)
-IsExplained what contents told (ended.Misused sent) out out' err err' =
-    (is_help what ≡ false) × (what ≢ kind.OutOfMemory) × ((text : List ℕ) × IsTold sent (told err) (told err') text)
+IsExplained what contents reported (ended.Misused sent) out out' err err' =
+    (is_help what ≡ false) × (what ≢ kind.OutOfMemory)
+    × ((text : List ℕ) × IsSentTo sent (reported err) (reported err') text)
     × (out' ≡ out)
 
 -- what is said of a refusal, or of each, is left on the first writer, as far as that took it
 abbrev pub AreExplained : {O : Type 0} → Option RefusalKind → (O → Option (List ℕ)) → Ended → O → O → Type 0
 AreExplained which contents ends out out' =
     (sent : Result ⊤ WriterFailed) × (ends ≡ ended.Helped sent)
-    × IsTold sent (contents out) (contents out') (explanation which)
+    × IsSentTo sent (contents out) (contents out') (explanation which)
 
 -- the file that a request names
 abbrev pub file_of : Request → List ℕ
@@ -73,7 +74,7 @@ file_of (Serve file port count operator) = file.now
 
 -- what a run touched, where a file that was refused is a U, and one that was closed a C
 abbrev pub Traces : (A U C : Type 0) → Type 0
-Traces A U C = Touched A U C (Met (Snapshot OrderFile) (Snapshot Port) (Snapshot NoPort))
+Traces A U C = Touched A U C (Used (Snapshot OrderFile) (Snapshot Port) (Snapshot NoPort))
 
 module _ {A K U C : Type 0} (book_file : OverFile K U C) where
   -- the run printed what it had to, as far as standard output took it
@@ -103,8 +104,8 @@ module _ {A K U C : Type 0} (book_file : OverFile K U C) where
       IsNotServed book_file touched why × (out' ≡ out)
 
   -- the words spell a request for which this was printed, and whose file was touched
-  abbrev pub IsObeyed : Words → Traces A U C → Printed → Option (List ℕ) → Option (List ℕ) → Type 0
-  IsObeyed words touched printed old new =
+  abbrev pub IsCarriedOut : Words → Traces A U C → Printed → Option (List ℕ) → Option (List ℕ) → Type 0
+  IsCarriedOut words touched printed old new =
       (request : Request) × ReadsRequest words (Ok request) × PrintsFor request touched printed old new
       × IsOf book_file (file_of request) touched
 
@@ -121,29 +122,29 @@ module _ {A K U C : Type 0} (book_file : OverFile K U C) where
   -- that was refused behind them stay on the first.
   abbrev pub EndsFor : {O E : Type 0} → Words → (O → Option (List ℕ)) → (E → Option (List ℕ)) → Ended
       → Traces A U C → O → O → E → E → Type 0
-  EndsFor words contents told (ended.Printed printed) touched out out' err err' =
-      IsObeyed words touched printed (contents out) (contents out') × (err' ≡ err)
-  EndsFor words contents told (ended.Refused failure sent) touched out out' err err' =
-      IsTold sent (told err) (told err') (ended_line (refusal_line failure))
+  EndsFor words contents reported (ended.Printed printed) touched out out' err err' =
+      IsCarriedOut words touched printed (contents out) (contents out') × (err' ≡ err)
+  EndsFor words contents reported (ended.Refused failure sent) touched out out' err err' =
+      IsSentTo sent (reported err) (reported err') (ended_line (refusal_line failure))
       × IsDenied contents words touched failure out out'
-  EndsFor words contents told (ended.Helped sent) touched out out' err err' = ⊥
-  EndsFor words contents told (ended.Misused sent) touched out out' err err' = ⊥
+  EndsFor words contents reported (ended.Helped sent) touched out out' err err' = ⊥
+  EndsFor words contents reported (ended.Misused sent) touched out out' err err' = ⊥
 
   -- The same of a run whose command line was read so: the words of a request, the refusals to explain, none, or what
   -- the command line itself has to say.
   abbrev pub EndsAfter : {O E : Type 0} → Result (Option Asked) Error → (O → Option (List ℕ)) → (E → Option (List ℕ))
       → Ended → Traces A U C → O → O → E → E → Type 0
-  EndsAfter (Ok (Some (Run words))) contents told ends touched out out' err err' =
-      EndsFor words contents told ends touched out out' err err'
-  EndsAfter (Ok (Some (Refusals which))) contents told ends touched out out' err err' =
+  EndsAfter (Ok (Some (Run words))) contents reported ends touched out out' err err' =
+      EndsFor words contents reported ends touched out out' err err'
+  EndsAfter (Ok (Some (Refusals which))) contents reported ends touched out out' err err' =
       AreExplained which contents ends out out' × (err' ≡ err) × IsUntouched book_file touched
-  EndsAfter (Ok None) contents told ends touched out out' err err' =
+  EndsAfter (Ok None) contents reported ends touched out out' err err' =
       (ends ≡ ended.Misused (Ok _)) × (out' ≡ out) × (err' ≡ err) × IsUntouched book_file touched
-  EndsAfter (Err error) contents told ends touched out out' err err' =
-      IsExplained (kind_of error) contents told ends out out' err err' × IsUntouched book_file touched
+  EndsAfter (Err error) contents reported ends touched out out' err err' =
+      IsExplained (kind_of error) contents reported ends out out' err err' × IsUntouched book_file touched
 
   -- the same of a run whose command line was read in some way
   abbrev pub Ends : {O E : Type 0} → (O → Option (List ℕ)) → (E → Option (List ℕ)) → Ended
       → Traces A U C → O → O → E → E → Type 0
-  Ends contents told ends touched out out' err err' =
-      (read : Result (Option Asked) Error) × EndsAfter read contents told ends touched out out' err err'
+  Ends contents reported ends touched out out' err err' =
+      (read : Result (Option Asked) Error) × EndsAfter read contents reported ends touched out out' err err'

@@ -1,7 +1,7 @@
 //! The command line of the desk, as a call over two writers.
 #![tactic(auto)]
 
-mod acting;
+mod actions;
 mod run;
 
 pub use crate::run::run_words;

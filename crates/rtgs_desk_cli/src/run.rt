@@ -4,11 +4,11 @@ ghost use Rattle.rtgs_book_file.specs.OverFile.{file_from};
 ghost use Rattle.clap.specs.Words.{kind_of};
 ghost use Rattle.rtgs_output.specs.declared.WriterFailed.{WriterFailed};
 ghost use Rattle.rtgs_desk_lines.specs.Failures.{failure_line as refusal_line};
-ghost use Rattle.rtgs_desk_lines.specs.Told.{IsTold};
+ghost use Rattle.rtgs_desk_lines.specs.SentTo.{IsSentTo};
 ghost use Rattle.rtgs_desk_files.specs.Printing.{ended_line};
-ghost use Rattle.rtgs_desk_cli.specs.Runs.{AreExplained, Ends, EndsAfter, IsDenied, IsExplained, IsObeyed};
+ghost use Rattle.rtgs_desk_cli.specs.Runs.{AreExplained, Ends, EndsAfter, IsDenied, IsExplained, IsCarriedOut};
 
-use crate::acting::{RunMet, act};
+use crate::actions::{RunUsed, act};
 use clap::Error;
 use clap::error::ErrorKind;
 use rtgs_book_file::{FileKeeper, Start};
@@ -48,22 +48,22 @@ fn explain_refusals<O: Write>(which: Option<RefusalKind>, out: &mut O) -> Ended
     }
 }
 
-// A run that ends so is told on standard error.
+// Reports on standard error that a run is refused.
 fn refused<E: Write>(failure: Failure, err: &mut E) -> Ended
-    ensures { (told : Result ⊤ WriterFailed) × (result ≡ Ended.Refused failure told)
-        × IsTold told (E.contents err.old) (E.contents err.new) (ended_line (refusal_line failure)) }
+    ensures { (sent : Result ⊤ WriterFailed) × (result ≡ Ended.Refused failure sent)
+        × IsSentTo sent (E.contents err.old) (E.contents err.new) (ended_line (refusal_line failure)) }
 {
     Ended::Refused(failure, failure.print(err))
 }
 
 /// Reads the words' forms, and does what they ask for.
-fn obey<S: Start, O: Write>(
+fn carry_out<S: Start, O: Write>(
     rt: &HostRuntime,
     words: &Words<'_>,
     start: S,
     out: &mut O,
-) -> Acted<S, RunMet>
-    ensures printed { IfOk result.0 (λ printed. IsObeyed
+) -> Acted<S, RunUsed>
+    ensures printed { IfOk result.0 (λ printed. IsCarriedOut
         (file_from ⟦<FileKeeper<S> as Keeper>⟧ S.Start (λ keeper. keeper.conn)) words.now result.1 printed
         (O.contents out.old) (O.contents out.new)) }
     ensures refused { IfErr result.0 (λ why. IsDenied (file_from ⟦<FileKeeper<S> as Keeper>⟧ S.Start
@@ -82,13 +82,13 @@ fn end<S: Start, O: Write, E: Write>(
     start: S,
     out: &mut O,
     err: &mut E,
-) -> (Ended, Traces<S, RunMet>)
+) -> (Ended, Traces<S, RunUsed>)
     ensures { EndsAfter (file_from ⟦<FileKeeper<S> as Keeper>⟧ S.Start (λ keeper. keeper.conn))
         read.entry O.contents E.contents result.0 result.1 out.old out.new err.old err.new }
 {
     match read {
         Ok(Some(Asked::Run(words))) => {
-            let (acted, touched) = obey(rt, &words, start, out);
+            let (acted, touched) = carry_out(rt, &words, start, out);
             match acted {
                 Ok(printed) => (Ended::Printed(printed), touched),
                 Err(failure) => (refused(failure, err), touched),
@@ -115,7 +115,7 @@ pub fn run_words<S: Start, O: Write, E: Write>(
     start: S,
     out: &mut O,
     err: &mut E,
-) -> (Ended, Traces<S, RunMet>)
+) -> (Ended, Traces<S, RunUsed>)
     ensures { Ends (file_from ⟦<FileKeeper<S> as Keeper>⟧ S.Start (λ keeper. keeper.conn))
         O.contents E.contents result.0 result.1 out.old out.new err.old err.new }
 {

@@ -17,8 +17,8 @@ use Rattle.rtgs_book_file.specs.OverFile.{OverFile}
 use Rattle.rtgs_desk_files.specs.Done.{IsDone}
 use Rattle.rtgs_desk_files.specs.Printing.{ended_line}
 use Rattle.rtgs_desk_files.specs.Touching.{IsClosed, IsNotOpened}
-use Rattle.rtgs_desk_files.specs.declared.met.Met.{Met}
-use Rattle.rtgs_desk_files.specs.declared.met.Met.TheVariants as met
+use Rattle.rtgs_desk_files.specs.declared.used.Used.{Used}
+use Rattle.rtgs_desk_files.specs.declared.used.Used.TheVariants as used
 use Rattle.rtgs_desk_files.specs.declared.touched.Touched.{Touched}
 use Rattle.rtgs_desk_files.specs.declared.touched.Touched.TheVariants as traces
 
@@ -34,29 +34,29 @@ module _ {K U C : Type 0} (file : OverFile K U C) where
 
 module _ {A K U C F P N : Type 0} (book_file : OverFile K U C) where
   -- what a run that makes a book has to print: the line that says so
-  abbrev pub HasMade : Touched A U C (Met F P N) → List ℕ → Option Refusal → Type 0
+  abbrev pub HasMade : Touched A U C (Used F P N) → List ℕ → Option Refusal → Type 0
   HasMade touched text stopped =
-      ((made : C) × (touched ≡ traces.Book made met.Nothing) × book_file.was_made made)
+      ((made : C) × (touched ≡ traces.Book made used.Nothing) × book_file.was_made made)
       × (text ≡ ended_line (done_line Made)) × (stopped ≡ None)
 
   -- what a run that brings the tables of a book to the newest version has to print: whether it did, or they were of it
-  abbrev pub HasMigrated : Touched A U C (Met F P N) → List ℕ → Option Refusal → Type 0
+  abbrev pub HasMigrated : Touched A U C (Used F P N) → List ℕ → Option Refusal → Type 0
   HasMigrated touched text stopped =
-      (wrote : Bool) × ((migrated : C) × (touched ≡ traces.Book migrated met.Nothing)
+      (wrote : Bool) × ((migrated : C) × (touched ≡ traces.Book migrated used.Nothing)
       × book_file.was_migrated wrote migrated) × (text ≡ ended_line (done_line (done_by_migration wrote)))
       × (stopped ≡ None)
 
   -- what a run that gives a command has to print: the line of its answer, and a second of what was resolved after it
-  abbrev pub HasAnswered : Command → Touched A U C (Met F P N) → List ℕ → Option Refusal → Type 0
+  abbrev pub HasAnswered : Command → Touched A U C (Used F P N) → List ℕ → Option Refusal → Type 0
   HasAnswered command touched text stopped =
-      (answer : WholeAnswer) × (left : Seen K) × IsClosed book_file left met.Nothing touched
+      (answer : WholeAnswer) × (left : Seen K) × IsClosed book_file left used.Nothing touched
       × IsSubmitted book_file command (Ok answer) left
       × IsOfItsKind command answer × (text ≡ ended_line (done_line (Answered answer)))
       × (stopped ≡ None)
 
   -- why a run that gives a command is refused
-  abbrev pub IsNotAnswered : Command → Touched A U C (Met F P N) → Failure → Type 0
+  abbrev pub IsNotAnswered : Command → Touched A U C (Used F P N) → Failure → Type 0
   IsNotAnswered command touched why =
       IsNotOpened book_file touched why
-      ⊎ ((refusal : Refusal) × (left : Seen K) × IsClosed book_file left met.Nothing touched
+      ⊎ ((refusal : Refusal) × (left : Seen K) × IsClosed book_file left used.Nothing touched
       × IsSubmitted book_file command (Err refusal) left × (why ≡ Refused refusal))

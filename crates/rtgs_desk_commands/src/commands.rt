@@ -14,7 +14,7 @@ ghost use Rattle.rtgs_desk_lines.specs.Texts.{Prints};
 use rtgs_book::{Command, Refusal, WholeAnswer};
 use rtgs_book_file::{FileKeeper, Start};
 use rtgs_desk_files::{
-    Acted, Finished, Met, Touched, close_book, failure_of_unopened, make, migrate, open,
+    Acted, Finished, Touched, Used, close_book, failure_of_unopened, make, migrate, open,
 };
 use rtgs_desk_lines::{Done, Failure, Printed};
 use rtgs_keeper::Keeper;
@@ -26,7 +26,7 @@ pub fn make_book<S: Start, O: Write, F, P, N>(
     file: &str,
     start: S,
     out: &mut O,
-) -> Acted<S, Met<F, P, N>>
+) -> Acted<S, Used<F, P, N>>
     ensures printed { IfOk result.0 (λ printed. PrintsText
         (HasMade (file_from ⟦<FileKeeper<S> as Keeper>⟧ S.Start (λ keeper. keeper.conn)) result.1) printed
         (O.contents out.old) (O.contents out.new)) }
@@ -36,7 +36,7 @@ pub fn make_book<S: Start, O: Write, F, P, N>(
     ensures at { IsOf (file_from ⟦<FileKeeper<S> as Keeper>⟧ S.Start (λ keeper. keeper.conn)) file.now result.1 }
 {
     match make(rt, file, start) {
-        Ok(made) => (Ok(say(Done::Made, out)), Touched::Book(made, Met::Nothing)),
+        Ok(made) => (Ok(say(Done::Made, out)), Touched::Book(made, Used::Nothing)),
         Err(unmade) => (Err(failure_of_unopened(&unmade)), Touched::Refused(unmade)),
     }
 }
@@ -47,7 +47,7 @@ pub fn migrate_book<S: Start, O: Write, F, P, N>(
     file: &str,
     start: S,
     out: &mut O,
-) -> Acted<S, Met<F, P, N>>
+) -> Acted<S, Used<F, P, N>>
     ensures printed { IfOk result.0 (λ printed. PrintsText
         (HasMigrated (file_from ⟦<FileKeeper<S> as Keeper>⟧ S.Start (λ keeper. keeper.conn)) result.1) printed
         (O.contents out.old) (O.contents out.new)) }
@@ -59,7 +59,7 @@ pub fn migrate_book<S: Start, O: Write, F, P, N>(
     match migrate(rt, file, start) {
         Ok((migrated, wrote)) => (
             Ok(say(migration(wrote), out)),
-            Touched::Book(migrated, Met::Nothing),
+            Touched::Book(migrated, Used::Nothing),
         ),
         Err(unmigrated) => (
             Err(failure_of_unopened(&unmigrated)),
@@ -75,7 +75,7 @@ pub fn answer<S: Start, O: Write, F, P, N>(
     command: Command,
     start: S,
     out: &mut O,
-) -> Acted<S, Met<F, P, N>>
+) -> Acted<S, Used<F, P, N>>
     ensures printed { IfOk result.0 (λ printed. PrintsText
         (HasAnswered (file_from ⟦<FileKeeper<S> as Keeper>⟧ S.Start (λ keeper. keeper.conn)) command result.1) printed
         (O.contents out.old) (O.contents out.new)) }
@@ -85,7 +85,7 @@ pub fn answer<S: Start, O: Write, F, P, N>(
     ensures at { IsOf (file_from ⟦<FileKeeper<S> as Keeper>⟧ S.Start (λ keeper. keeper.conn)) file.now result.1 }
 {
     match close_book(submit(rt, file, command, start)) {
-        Ok((closed, reply)) => (told(reply, out), Touched::Book(closed, Met::Nothing)),
+        Ok((closed, reply)) => (print(reply, out), Touched::Book(closed, Used::Nothing)),
         Err(unopened) => (
             Err(failure_of_unopened(&unopened)),
             Touched::Refused(unopened),
@@ -115,7 +115,7 @@ fn submit<S: Start>(
 }
 
 // Prints what the desk answered. Where it refused the command, nothing is printed.
-fn told<O: Write>(reply: Result<WholeAnswer, Refusal>, out: &mut O) -> Result<Printed, Failure>
+fn print<O: Write>(reply: Result<WholeAnswer, Refusal>, out: &mut O) -> Result<Printed, Failure>
     ensures printed { IfOk result (λ printed. (answer : _) × (reply ≡ Ok answer)
         × Prints (ended_line (done_line (Done.Answered answer))) None printed (O.contents out.old)
         (O.contents out.new)) }

@@ -1,4 +1,4 @@
--- What a run touched of the file of its book, and how it is told that the file was refused.
+-- What a run touched of the file of its book, and how it is reported that the file was refused.
 use Rattle.std.specs.Prelude.{◌≡◌, ℕ, List}
 use Rattle.rtgs_desk.specs.Seen.{Seen}
 use Rattle.rtgs_desk_lines.specs.declared.failure.Failure.{Failure}
@@ -6,12 +6,12 @@ use Rattle.rtgs_desk_lines.specs.declared.failure.Failure.TheVariants.{Opening, 
 use Rattle.rtgs_book_file.specs.OverFile.{OverFile}
 use Rattle.rtgs_book_file.specs.declared.file_fault.FileFault.{FileFault}
 use Rattle.rtgs_book_file.specs.declared.file_fault.FileFault.TheVariants as file
-use Rattle.rtgs_desk_files.specs.declared.met.Met.{Met}
-use Rattle.rtgs_desk_files.specs.declared.met.Met.TheVariants as met
+use Rattle.rtgs_desk_files.specs.declared.used.Used.{Used}
+use Rattle.rtgs_desk_files.specs.declared.used.Used.TheVariants as used
 use Rattle.rtgs_desk_files.specs.declared.touched.Touched.{Touched}
 use Rattle.rtgs_desk_files.specs.declared.touched.Touched.TheVariants as traces
 
--- how a fault of a book's file is told
+-- the failure that a fault of a book's file is reported as
 abbrev pub failure_of_file : FileFault → Failure
 failure_of_file file.InUse = InUse
 failure_of_file file.FileExists = FileExists
@@ -23,13 +23,13 @@ IsFile WhenRefused WhenClosed (traces.Nothing start) = ⊥
 IsFile WhenRefused WhenClosed (traces.Refused unopened) = WhenRefused unopened
 IsFile WhenRefused WhenClosed (traces.Book closed beside) = WhenClosed closed
 
--- what a run met beside the file of its book
-abbrev pub met_of : {A U C F P N : Type 0} → Touched A U C (Met F P N) → Met F P N
-met_of (traces.Book closed beside) = beside
-met_of _ = met.Nothing
+-- what a run used beside the file of its book
+abbrev pub used_of : {A U C F P N : Type 0} → Touched A U C (Used F P N) → Used F P N
+used_of (traces.Book closed beside) = beside
+used_of _ = used.Nothing
 
 module _ {A K U C M : Type 0} (book_file : OverFile K U C) where
-  -- the file was refused in such a way, and what is told is what refused it
+  -- the file was refused in such a way, and what is reported is what refused it
   abbrev IsRefusedAs : (U → Type 0) → Touched A U C M → Failure → Type 0
   IsRefusedAs Was touched why = (refused : U) × (touched ≡ traces.Refused refused) × Was refused
       × (why ≡ failure_of_file (book_file.fault_of refused))
@@ -46,7 +46,7 @@ module _ {A K U C M : Type 0} (book_file : OverFile K U C) where
   abbrev pub IsNotMigrated : Touched A U C M → Failure → Type 0
   IsNotMigrated = IsRefusedAs book_file.was_unmigrated
 
-  -- the desk was left so, and then the file was closed, which is this one; and beside it the run met this
+  -- the desk was left so, and then the file was closed, which is this one; and beside it the run used this
   abbrev pub IsClosed : Seen K → M → Touched A U C M → Type 0
   IsClosed left beside touched = (closed : C) × (touched ≡ traces.Book closed beside) × book_file.was_closed left closed
 

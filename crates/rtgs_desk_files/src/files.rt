@@ -1,4 +1,4 @@
-//! The book in a file, and how its faults are told.
+//! The book in a file, and how its faults are reported.
 ghost use Rattle.std.specs.Prelude.{◌≡◌, Ok, Err, IfOk, IfErr, string_bytes};
 ghost use Rattle.rtgs_book_file.specs.Files.{lock_name};
 ghost use Rattle.rtgs_book_file.specs.OverFile.{file_from};
@@ -6,7 +6,7 @@ ghost use Rattle.rtgs_desk_files.specs.Touching.{failure_of_file};
 
 use crate::touched::Touched;
 use rtgs_book_file::{
-    BookLock, FileFault, FileKeeper, FinishedBook, LetGo, OpenBook, Start, Unopened,
+    BookLock, FileFault, FileKeeper, FinishedBook, OpenBook, Released, Start, Unopened,
 };
 use rtgs_desk_lines::{Failure, Printed};
 use rtgs_keeper::Keeper;
@@ -15,16 +15,16 @@ use rtgs_keeper::Keeper;
 pub type Finished<S, T> = Result<(FinishedBook<FileKeeper<S>>, T), Unopened<S>>;
 
 /// The same, once the book was closed and let go.
-pub type Closed<S, T> = Result<(LetGo<S>, T), Unopened<S>>;
+pub type Closed<S, T> = Result<(Released<S>, T), Unopened<S>>;
 
 /// What a run touched of a book's file that held what `S` says, where it met `M` beside it.
-pub type Traces<S, M> = Touched<S, Unopened<S>, LetGo<S>, M>;
+pub type Traces<S, M> = Touched<S, Unopened<S>, Released<S>, M>;
 
 /// What a run printed, or why it was refused, and what it touched of the file.
 pub type Acted<S, M> = (Result<Printed, Failure>, Traces<S, M>);
 
 /// Makes a new book in a file that is missing or empty. Refused where there is another file, or where it fails.
-pub fn make<S: Start>(rt: &HostRuntime, file: &str, start: S) -> Result<LetGo<S>, Unopened<S>>
+pub fn make<S: Start>(rt: &HostRuntime, file: &str, start: S) -> Result<Released<S>, Unopened<S>>
     ensures made { IfOk result (λ made.
         (file_from ⟦<FileKeeper<S> as Keeper>⟧ S.Start (λ keeper. keeper.conn)).was_made made) }
     ensures refused { IfErr result (λ unmade.
@@ -44,7 +44,7 @@ pub fn migrate<S: Start>(
     rt: &HostRuntime,
     file: &str,
     start: S,
-) -> Result<(LetGo<S>, bool), Unopened<S>>
+) -> Result<(Released<S>, bool), Unopened<S>>
     ensures migrated { IfOk result (λ (migrated, wrote).
         (file_from ⟦<FileKeeper<S> as Keeper>⟧ S.Start (λ keeper. keeper.conn)).was_migrated wrote migrated) }
     ensures refused { IfErr result (λ unmigrated.
@@ -84,7 +84,7 @@ pub fn close_book<S: Start, T>(finished: Finished<S, T>) -> Closed<S, T>
     ensures unopened { IfErr result (λ unopened. finished ≡ Err unopened) }
 {
     match finished {
-        Ok((book, done)) => Ok((book.close().let_go(), done)),
+        Ok((book, done)) => Ok((book.close().release(), done)),
         Err(unopened) => Err(unopened),
     }
 }
@@ -97,7 +97,7 @@ pub fn failure_of_unopened<S: Start>(unopened: &Unopened<S>) -> Failure
     failure_of(unopened.fault())
 }
 
-// How a fault of a book's file is told.
+// The failure that a fault of a book's file is reported as.
 fn failure_of(fault: FileFault) -> Failure
     ensures { result ≡ failure_of_file fault }
 {

@@ -3,11 +3,11 @@
 #![tactic(auto)]
 
 mod files;
-mod met;
 mod touched;
+mod used;
 
 pub use crate::files::{
     Acted, Closed, Finished, Traces, close_book, failure_of_unopened, make, migrate, open,
 };
-pub use crate::met::Met;
 pub use crate::touched::Touched;
+pub use crate::used::Used;

@@ -14,8 +14,8 @@ use Rattle.rtgs_order_files.specs.declared.order_row.OrderRow.{OrderRow}
 use Rattle.rtgs_book_file.specs.OverFile.{OverFile}
 use Rattle.rtgs_desk_files.specs.Done.{IsIdle}
 use Rattle.rtgs_desk_files.specs.Touching.{IsClosed}
-use Rattle.rtgs_desk_files.specs.declared.met.Met.{Met}
-use Rattle.rtgs_desk_files.specs.declared.met.Met.TheVariants as met
+use Rattle.rtgs_desk_files.specs.declared.used.Used.{Used}
+use Rattle.rtgs_desk_files.specs.declared.used.Used.TheVariants as used
 use Rattle.rtgs_desk_files.specs.declared.touched.Touched.{Touched}
 use Rattle.rtgs_desk_files.specs.declared.touched.Touched.TheVariants as traces
 use Rattle.rtgs_desk_imports.specs.Causes.{AreRowsOf}
@@ -25,9 +25,9 @@ use Rattle.rtgs_desk_imports.specs.declared.order_file.OrderFile.{OrderFile}
 -- where this refusal is the only one, what is so of it is so of any
 pub refused_as : {T E : Type 0} (result : Result T E) (why : E) (S : Type 0) (P : E → Type 0)
     → OnErr result ((result ≡ Err why) × S) → P why → IfErr result P
-refused_as (Ok done) why S P told it = tt
-refused_as (Err other) why S P told it =
-    let is = told.0 in
+refused_as (Ok done) why S P only it = tt
+refused_as (Err other) why S P only it =
+    let is = only.0 in
     let same : other ≡ why = cc in
     subst P (sym same) it
 
@@ -64,8 +64,8 @@ module _ {K B U C E V W : Type 0} (file : OverFile K U C) (desk_of : B → Seen 
     (read : Snapshot OrderFile) (is : finished ≡ Ok (book, (done, read))) (A P N : Type 0) (closed : C)
     (shut : file.was_closed (desk_of book) closed) where
   -- what the run touched
-  abbrev sent : Touched A U C (Met (Snapshot OrderFile) P N)
-  sent = traces.Book closed (met.Orders read)
+  abbrev sent : Touched A U C (Used (Snapshot OrderFile) P N)
+  sent = traces.Book closed (used.Orders read)
 
   -- the book to which the rows of a batch were sent
   pub imported_with : (sender : List ℕ) (rows_of : V → List OrderRow) (replies_of : V → List RowReply)
@@ -91,7 +91,7 @@ module _ {K B U C E V W : Type 0} (file : OverFile K U C) (desk_of : B → Seen 
   pub idle_for : (Why : Snapshot OrderFile → W → Type 0)
       → IfOk finished (λ p. IfErr p.1.0 (λ why. Why p.1.1 why × IsIdle file (desk_of p.0)))
       → (why : W) → done ≡ Err why
-      → Why read why × (left : Seen K) × IsClosed file left (met.Orders read) sent × IsIdle file left
+      → Why read why × (left : Seen K) × IsClosed file left (used.Orders read) sent × IsIdle file left
   idle_for Why all why refused =
       let it = IfErr-at_err (λ why. Why read why × IsIdle file (desk_of book)) refused
       (IfOk-at_ok (λ p. IfErr p.1.0 (λ why. Why p.1.1 why × IsIdle file (desk_of p.0))) is all) in

@@ -15,21 +15,21 @@ use Rattle.rtgs_desk_lines.specs.declared.failure.Failure.{Failure}
 use Rattle.rtgs_desk_lines.specs.declared.failure.Failure.TheVariants.{Refused}
 use Rattle.rtgs_book_file.specs.OverFile.{OverFile}
 use Rattle.rtgs_desk_files.specs.Done.{IsDone, IsIdle}
-use Rattle.rtgs_desk_files.specs.Touching.{met_of, IsClosed, IsNotOpened}
-use Rattle.rtgs_desk_files.specs.declared.met.Met.{Met}
-use Rattle.rtgs_desk_files.specs.declared.met.Met.TheVariants as met
+use Rattle.rtgs_desk_files.specs.Touching.{used_of, IsClosed, IsNotOpened}
+use Rattle.rtgs_desk_files.specs.declared.used.Used.{Used}
+use Rattle.rtgs_desk_files.specs.declared.used.Used.TheVariants as used
 use Rattle.rtgs_desk_files.specs.declared.touched.Touched.{Touched}
 use Rattle.rtgs_desk_imports.specs.Causes.{AreRowsOf, RefusesRows}
 use Rattle.rtgs_desk_imports.specs.declared.order_file.OrderFile.{OrderFile}
 
 -- the run met a file of orders, and these are its rows, as it was read
-abbrev pub AreReadFrom : {P N : Type 0} → Met (Snapshot OrderFile) P N → List OrderRow → Type 0
-AreReadFrom (met.Orders read) rows = AreRowsOf (λ bytes. bytes.items) read.value.answer rows
+abbrev pub AreReadFrom : {P N : Type 0} → Used (Snapshot OrderFile) P N → List OrderRow → Type 0
+AreReadFrom (used.Orders read) rows = AreRowsOf (λ bytes. bytes.items) read.value.answer rows
 AreReadFrom _ rows = ⊥
 
 -- the run met a file of orders, and what reading it answered refuses it so
-abbrev pub IsNotSent : {P N : Type 0} → Met (Snapshot OrderFile) P N → Failure → Type 0
-IsNotSent (met.Orders read) why = RefusesRows (λ bytes. bytes.items) read.value.answer why
+abbrev pub IsNotSent : {P N : Type 0} → Used (Snapshot OrderFile) P N → Failure → Type 0
+IsNotSent (used.Orders read) why = RefusesRows (λ bytes. bytes.items) read.value.answer why
 IsNotSent _ why = ⊥
 
 -- what rows that were submitted make of a book that the desk over the file held, and what a stop then leaves, by the
@@ -49,29 +49,29 @@ module _ {K U C : Type 0} (file : OverFile K U C) where
 
 module _ {A K U C P N : Type 0} (book_file : OverFile K U C) where
   -- the rows of an order file were submitted, with these replies, and the batch stopped so, if it did
-  abbrev pub IsImported : Touched A U C (Met (Snapshot OrderFile) P N) → List ℕ → List OrderRow → List RowReply
+  abbrev pub IsImported : Touched A U C (Used (Snapshot OrderFile) P N) → List ℕ → List OrderRow → List RowReply
       → Option Refusal → Type 0
   IsImported touched sender rows replies stopped =
-      (left : Seen K) × IsClosed book_file left (met_of touched) touched
+      (left : Seen K) × IsClosed book_file left (used_of touched) touched
       × IsSent book_file sender rows replies stopped left
-      × AreReadFrom (met_of touched) rows × StopsAfter (length replies) (length rows) stopped
+      × AreReadFrom (used_of touched) rows × StopsAfter (length replies) (length rows) stopped
 
   -- what a run that submits a file of orders has to print: the results of its batch
-  abbrev pub HasSent : List ℕ → Touched A U C (Met (Snapshot OrderFile) P N) → List ℕ → Option Refusal → Type 0
+  abbrev pub HasSent : List ℕ → Touched A U C (Used (Snapshot OrderFile) P N) → List ℕ → Option Refusal → Type 0
   HasSent sender touched text stopped =
       (rows : List OrderRow) × (replies : List RowReply) × IsImported touched sender rows replies stopped
       × (text ≡ results_text rows replies stopped)
 
   -- the rows of an order file were submitted, and memory was wanting for their results
-  abbrev pub IsUntold : Touched A U C (Met (Snapshot OrderFile) P N) → List ℕ → Failure → Type 0
-  IsUntold touched sender why =
+  abbrev pub HasNoRoomForResults : Touched A U C (Used (Snapshot OrderFile) P N) → List ℕ → Failure → Type 0
+  HasNoRoomForResults touched sender why =
       (why ≡ Refused OutOfMemory) × (rows : List OrderRow) × (replies : List RowReply) × (stopped : Option Refusal)
       × IsImported touched sender rows replies stopped
 
   -- why a run that submits a file of orders is refused
-  abbrev pub IsNotImported : List ℕ → Touched A U C (Met (Snapshot OrderFile) P N) → Failure → Type 0
+  abbrev pub IsNotImported : List ℕ → Touched A U C (Used (Snapshot OrderFile) P N) → Failure → Type 0
   IsNotImported sender touched why =
       IsNotOpened book_file touched why
-      ⊎ ((IsNotSent (met_of touched) why × (left : Seen K) × IsClosed book_file left (met_of touched) touched
+      ⊎ ((IsNotSent (used_of touched) why × (left : Seen K) × IsClosed book_file left (used_of touched) touched
       × IsIdle book_file left)
-      ⊎ IsUntold touched sender why)
+      ⊎ HasNoRoomForResults touched sender why)

@@ -3,8 +3,8 @@
 #![tactic(auto)]
 
 mod batches;
-mod importing;
+mod imports;
 mod order_file;
 
-pub use crate::importing::import;
+pub use crate::imports::import;
 pub use crate::order_file::{OrderFile, read_bytes};

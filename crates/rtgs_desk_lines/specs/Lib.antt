@@ -1,4 +1,4 @@
 pub mod Failures
 pub mod Lines
 pub mod Texts
-pub mod Told
+pub mod SentTo

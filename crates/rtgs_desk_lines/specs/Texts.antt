@@ -49,6 +49,6 @@ printed_status (Lost failed) = FAILED
 -- the status of the run: of what it printed, of its refusal, of help, or of misuse
 abbrev pub ended_status : Ended → Option ℕ
 ended_status (ended.Printed printed) = Some (printed_status printed)
-ended_status (ended.Refused failure told) = (failure_entry_of failure).exit_status
-ended_status (ended.Helped told) = Some (printed_status (printed_of told))
-ended_status (ended.Misused told) = Some MISUSED
+ended_status (ended.Refused failure written) = (failure_entry_of failure).exit_status
+ended_status (ended.Helped written) = Some (printed_status (printed_of written))
+ended_status (ended.Misused written) = Some MISUSED

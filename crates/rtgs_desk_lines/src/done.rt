@@ -3,9 +3,9 @@ ghost use Rattle.std.specs.Prelude.{◌≡◌, ◌+◌, ◌<◌, ◌≤◌, ◌+
 ghost use Rattle.arrayvec.specs.ArrayString.{array_string_len};
 ghost use Rattle.rtgs_book.specs.Standings.{word_of};
 ghost use Rattle.rtgs_desk_lines.specs.Lines.{answer_line, auto_line, done_line, whole_line};
-ghost use Rattle.rtgs_desk_lines.specs.Told.{IsTold};
+ghost use Rattle.rtgs_desk_lines.specs.SentTo.{IsSentTo};
 
-use crate::line::{Line, ROOM};
+use crate::line::{LineBuffer, ROOM};
 use rtgs_book::{Answer, Resolution, Standing, WholeAnswer};
 use rtgs_output::WriterFailed;
 use std::fmt;
@@ -27,7 +27,6 @@ pub enum Done {
     Migrated,
     /// What was asked for had been done before.
     Repeated,
-    /// The desk answered.
     Answered(WholeAnswer),
     /// The server waits for connections on this port.
     Listening { port: u16 },
@@ -39,29 +38,29 @@ impl Done {
     /// Prints the line or the two lines with their ends, in one piece. Where the writer fails, a beginning of that is
     /// printed, and not all.
     pub fn print<O: Write>(self, out: &mut O) -> Result<(), WriterFailed>
-        ensures { IsTold result (O.contents out.old) (O.contents out.new) (done_line self ++ 10 ∷ []) }
+        ensures { IsSentTo result (O.contents out.old) (O.contents out.new) (done_line self ++ 10 ∷ []) }
     {
         self.line().send(out)
     }
 
     // The line or the two lines, without the end of the last.
-    fn line(self) -> Line
+    fn line(self) -> LineBuffer
         ensures text { result.text.bytes ≡ done_line self }
         ensures room { array_string_len result.text < ROOM }
     {
         match self {
-            Done::Made => Line::of("initialised"),
-            Done::Migrated => Line::of("migrated"),
-            Done::Repeated => Line::of(REPEATED),
+            Done::Made => LineBuffer::of("initialised"),
+            Done::Migrated => LineBuffer::of("migrated"),
+            Done::Repeated => LineBuffer::of(REPEATED),
             Done::Answered(answer) => whole_line(answer),
-            Done::Listening { port } => Line::of("listening ").number(port),
-            Done::Served { count } => Line::of("served ").number(count),
+            Done::Listening { port } => LineBuffer::of("listening ").number(port),
+            Done::Served { count } => LineBuffer::of("served ").number(count),
         }
     }
 }
 
 // An answer as one line, and what was resolved after the command as a second, without the end of the last.
-fn whole_line(answer: WholeAnswer) -> Line
+fn whole_line(answer: WholeAnswer) -> LineBuffer
     ensures text { result.text.bytes ≡ whole_line answer }
     ensures room { array_string_len result.text < ROOM }
 {
@@ -73,25 +72,25 @@ fn whole_line(answer: WholeAnswer) -> Line
 }
 
 // What was resolved after a command, as a second line behind the end of the first, without its own.
-fn auto_line(auto: Resolution) -> Line
+fn auto_line(auto: Resolution) -> LineBuffer
     ensures text { result.text.bytes ≡ auto_line (Some auto) }
     ensures room { array_string_len result.text ≤ LONGEST_LINE }
 {
-    let line = Line::of("\nauto mark ").number(auto.mark);
+    let line = LineBuffer::of("\nauto mark ").number(auto.mark);
     let line = line.then(" count ").number(auto.count);
     line.then(" value ").number(auto.value.cents())
 }
 
 // An answer as one line, without its end.
-fn answer_line(answer: Answer) -> Line
+fn answer_line(answer: Answer) -> LineBuffer
     ensures text { result.text.bytes ≡ answer_line answer }
     ensures room { array_string_len result.text ≤ LONGEST_LINE }
 {
     match answer {
-        Answer::Added => Line::of("added"),
-        Answer::CreditSet => Line::of("credit set"),
-        Answer::Posted { number } => Line::of("posted ").number(number),
-        Answer::Opened => Line::of("opened"),
+        Answer::Added => LineBuffer::of("added"),
+        Answer::CreditSet => LineBuffer::of("credit set"),
+        Answer::Posted { number } => LineBuffer::of("posted ").number(number),
+        Answer::Opened => LineBuffer::of("opened"),
         Answer::Settled { number, mark } => {
             order_line(Standing::Settled, number)
                 .then(" mark ")
@@ -110,24 +109,24 @@ fn answer_line(answer: Answer) -> Line
         }
         Answer::Withdrawn { number } => order_line(Standing::Withdrawn, number),
         Answer::Resolved { mark, count, value } => {
-            let line = Line::of("resolved mark ").number(mark);
+            let line = LineBuffer::of("resolved mark ").number(mark);
             let line = line.then(" count ").number(count);
             line.then(" value ").number(value.cents())
         }
-        Answer::Nothing => Line::of("nothing"),
-        Answer::CutOffDone => Line::of("cut off"),
-        Answer::Closed { rejected } => Line::of("closed rejected ").number(rejected),
-        Answer::Repeated(_) => Line::of(REPEATED),
+        Answer::Nothing => LineBuffer::of("nothing"),
+        Answer::CutOffDone => LineBuffer::of("cut off"),
+        Answer::Closed { rejected } => LineBuffer::of("closed rejected ").number(rejected),
+        Answer::Repeated(_) => LineBuffer::of(REPEATED),
     }
 }
 
 // Where an order stands now, and its number.
 #[tactic(auto, using(crate::proofs::Words::is_short))]
-fn order_line(standing: Standing, number: u64) -> Line
+fn order_line(standing: Standing, number: u64) -> LineBuffer
     ensures text { result.text.bytes ≡ word_of standing ++ codes " " ++ decimal number }
     ensures room { array_string_len result.text ≤ 30 }
 {
-    Line::of(standing.word()).then(" ").number(number)
+    LineBuffer::of(standing.word()).then(" ").number(number)
 }
 
 impl fmt::Display for Done {

@@ -3,9 +3,9 @@ ghost use Rattle.std.specs.Prelude.{◌≡◌, ◌⊎◌, ◌+◌, ◌<◌, ◌�
 ghost use Rattle.arrayvec.specs.ArrayString.{array_string_len};
 ghost use Rattle.rtgs_desk_lines.specs.Failures.{failure_kind_of, failure_entry_of, refusal_detail, fault_detail};
 ghost use Rattle.rtgs_desk_lines.specs.Failures.{detail_of, failure_line};
-ghost use Rattle.rtgs_desk_lines.specs.Told.{IsTold};
+ghost use Rattle.rtgs_desk_lines.specs.SentTo.{IsSentTo};
 
-use crate::line::{Line, ROOM};
+use crate::line::{LineBuffer, ROOM};
 use rtgs_book::{Fault, Refusal};
 use rtgs_money::Lexical;
 use rtgs_order_files::BatchFault;
@@ -70,64 +70,67 @@ impl Failure {
 
     /// Prints the line with its end, in one piece. Where the writer fails, a beginning of it is printed, and not all.
     pub fn print<E: Write>(&self, err: &mut E) -> Result<(), WriterFailed>
-        ensures { IsTold result (E.contents err.old) (E.contents err.new) (failure_line self.now ++ 10 ∷ []) }
+        ensures { IsSentTo result (E.contents err.old) (E.contents err.new) (failure_line self.now ++ 10 ∷ []) }
     {
         self.line().send(err)
     }
 
     // The line, without its end.
-    fn line(&self) -> Line
+    fn line(&self) -> LineBuffer
         ensures text { result.text.bytes ≡ failure_line self.now }
         ensures room { array_string_len result.text < ROOM }
     {
         let kind = self.kind();
         let number = kind.number();
-        let head = Line::of(if number < 10 { "refused 0" } else { "refused " });
+        let head = LineBuffer::of(if number < 10 { "refused 0" } else { "refused " });
         let line = head.number(number).then(" ").then(kind.name());
         line.then(self.detail().as_str())
     }
 
     // What stands behind the name.
-    fn detail(&self) -> Line
+    fn detail(&self) -> LineBuffer
         ensures text { result.text.bytes ≡ detail_of self.now }
         ensures room { array_string_len result.text ≤ LONGEST_DETAIL }
     {
         match *self {
             Failure::Refused(refusal) => refusal_detail(refusal),
             Failure::Opening(fault) => fault_detail(fault),
-            Failure::Orders(BatchFault::BadRow { row }) => Line::of(" ").number(row),
+            Failure::Orders(BatchFault::BadRow { row }) => LineBuffer::of(" ").number(row),
             Failure::Orders(_)
             | Failure::Form(_)
             | Failure::InUse
             | Failure::FileExists
             | Failure::OrdersTooLong
             | Failure::NoOrders
-            | Failure::NoListen => Line::of(""),
+            | Failure::NoListen => LineBuffer::of(""),
         }
     }
 }
 
 // What stands behind a refusal's name: of overdrawn participants the first code and the count.
-fn refusal_detail(refusal: Refusal) -> Line
+fn refusal_detail(refusal: Refusal) -> LineBuffer
     ensures text { result.text.bytes ≡ refusal_detail refusal }
     ensures room { array_string_len result.text ≤ LONGEST_DETAIL }
 {
     match refusal {
         Refusal::Overdrawn { first, count } => {
-            Line::of(" ").then(first.as_str()).then(" ").number(count)
+            LineBuffer::of(" ")
+                .then(first.as_str())
+                .then(" ")
+                .number(count)
         }
-        _ => Line::of(""),
+        _ => LineBuffer::of(""),
     }
 }
 
 // What stands behind a fault's name: of a broken rule its number.
-fn fault_detail(fault: Fault) -> Line
+fn fault_detail(fault: Fault) -> LineBuffer
     ensures text { result.text.bytes ≡ fault_detail fault }
     ensures room { array_string_len result.text ≤ LONGEST_DETAIL }
 {
     match fault {
-        Fault::Inconsistent { rule } => Line::of(" ").number(rule.number()),
-        Fault::OutOfMemory | Fault::StoreFault | Fault::NotADeskFile => Line::of(""),
+        Fault::Inconsistent { rule } => LineBuffer::of(" ").number(rule.number()),
+        Fault::OutOfMemory | Fault::StoreFault | Fault::NotADeskFile => LineBuffer::of(""),
     }
 }
 

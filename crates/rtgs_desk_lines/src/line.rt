@@ -1,7 +1,7 @@
 //! Lines that take no memory.
 ghost use Rattle.std.specs.Prelude.{◌≡◌, ◌+◌, ◌<◌, ◌≤◌, ◌++◌, ◌∷◌, [], length};
 ghost use Rattle.arrayvec.specs.ArrayString.{array_string_len};
-ghost use Rattle.rtgs_desk_lines.specs.Told.{IsTold};
+ghost use Rattle.rtgs_desk_lines.specs.SentTo.{IsSentTo};
 
 use arrayvec::ArrayString;
 use itoa::{Buffer, Integer};
@@ -13,25 +13,25 @@ pub(crate) const ROOM: usize = 192;
 
 /// The beginning of a line. It has its room in itself, and takes no memory.
 #[derive(Clone, Copy)]
-pub(crate) struct Line {
+pub(crate) struct LineBuffer {
     text: ArrayString<ROOM>,
 }
 
-impl Line {
+impl LineBuffer {
     /// A line that begins with this text.
-    pub(crate) fn of(text: &str) -> Line
+    pub(crate) fn of(text: &str) -> LineBuffer
         requires { length text.now ≤ ROOM }
         ensures text { result.text.bytes ≡ text.now }
         ensures room { array_string_len result.text ≡ length text.now }
     {
-        let line = Line {
+        let line = LineBuffer {
             text: ArrayString::new(),
         };
         line.then(text)
     }
 
     /// The line with this text behind it.
-    pub(crate) fn then(self, text: &str) -> Line
+    pub(crate) fn then(self, text: &str) -> LineBuffer
         requires { array_string_len self.text + length text.now ≤ ROOM }
         ensures text { result.text.bytes ≡ self.text.bytes ++ text.now }
         ensures room { array_string_len result.text ≡ array_string_len self.text + length text.now }
@@ -42,7 +42,7 @@ impl Line {
     }
 
     /// The line with this number behind it, in decimals.
-    pub(crate) fn number<N: Integer>(self, number: N) -> Line
+    pub(crate) fn number<N: Integer>(self, number: N) -> LineBuffer
         requires { array_string_len self.text + N.MAX_STR_LEN ≤ ROOM }
         ensures text { result.text.bytes ≡ self.text.bytes ++ N.text number }
         ensures room { array_string_len result.text ≤ array_string_len self.text + N.MAX_STR_LEN }
@@ -62,9 +62,10 @@ impl Line {
     /// Writes the line with its end, in one piece. Where the writer fails, a beginning of that is written, and not all.
     pub(crate) fn send<W: Write>(self, out: &mut W) -> Result<(), WriterFailed>
         requires { array_string_len self.text < ROOM }
-        ensures { IsTold result (W.contents out.old) (W.contents out.new) (self.text.bytes ++ 10 ∷ []) }
+        ensures { IsSentTo result (W.contents out.old) (W.contents out.new) (self.text.bytes ++ 10 ∷ []) }
     {
         let line = self.then("\n");
+        // The contract is by cases of the result, and the prover sees them where it is taken apart.
         match send_all(out, line.as_str().as_bytes()) {
             Ok(()) => Ok(()),
             Err(failed) => Err(failed),

@@ -22,10 +22,10 @@ impl Printed {
     ghost use Rattle.rtgs_desk_lines.specs.Texts.{printed_of, outcome_of, after_batch, printed_status};
 
     /// What became of a text that was sent like this.
-    pub fn sent(told: Result<(), WriterFailed>) -> Printed
-        ensures { result ≡ printed_of told }
+    pub fn sent(outcome: Result<(), WriterFailed>) -> Printed
+        ensures { result ≡ printed_of outcome }
     {
-        match told {
+        match outcome {
             Ok(()) => Printed::Whole,
             Err(failed) => Printed::Lost(failed),
         }

@@ -1,4 +1,4 @@
--- What a reading tells is told by its bytes.
+-- What a reading tells is in its bytes.
 use Rattle.std.proofs.Common.{◌≡◌, ◌⊎◌, ℕ, List, Result, Ok, Err, ap, subst, inl, inr}
 use Rattle.rtgs_book.specs.declared.Book.{Book}
 use Rattle.rtgs_book.specs.declared.Refusal.{Refusal}
@@ -14,15 +14,15 @@ use Rattle.rtgs_desk_readings.specs.Readings.{IsRead}
 
 tells_bytes : {V : Type 0} (bytes_of : V → List ℕ) (wanted : Result (List ℕ) Refusal) (text : V)
     → Tells bytes_of wanted (Ok text) → Tells (λ read. read) wanted (Ok (bytes_of text))
-tells_bytes bytes_of (Ok x) text told = told
-tells_bytes bytes_of (Err why) text told =
+tells_bytes bytes_of (Ok x) text answered = answered
+tells_bytes bytes_of (Err why) text answered =
     let no : ⊥ = cc in
     absurd no
 
 tells_refusal : {V : Type 0} (bytes_of : V → List ℕ) (wanted : Result (List ℕ) Refusal) (why : Refusal)
     → Tells bytes_of wanted (Err why) → Tells {Y = List ℕ} (λ read. read) wanted (Err why)
-tells_refusal bytes_of (Ok x) why told = told
-tells_refusal bytes_of (Err first) why told =
+tells_refusal bytes_of (Ok x) why answered = answered
+tells_refusal bytes_of (Err first) why answered =
     let same : why ≡ first = cc in
     ap Err same
 
@@ -81,7 +81,7 @@ module _ {K U C : Type 0} (file : OverFile K U C) {V : Type 0} (bytes_of : V →
       by : (book : Book) (wanted : Result (List ℕ) Refusal) → Tells bytes_of wanted (Ok text)
           ⊎ ReadingFails file.keeper book asked left (Ok text) → Tells (λ bytes. bytes) wanted (Ok (bytes_of text))
           ⊎ ReadingFails file.keeper book asked left (Ok (bytes_of text))
-      by book wanted (inl told) = inl (tells_bytes bytes_of wanted text told)
+      by book wanted (inl answered) = inl (tells_bytes bytes_of wanted text answered)
       by book wanted (inr fails) = absurd (fails_unread file.keeper book asked left text fails)
 
   pub refusal_read : (why : Refusal) → read ≡ Err why → IsRead file (λ bytes. bytes) asked (Err why) left
@@ -100,5 +100,5 @@ module _ {K U C : Type 0} (file : OverFile K U C) {V : Type 0} (bytes_of : V →
           ⊎ ReadingFails {V = V} file.keeper book asked left (Err why) → Tells {Y = List ℕ} (λ bytes. bytes) wanted (Err
           why)
           ⊎ ReadingFails {V = List ℕ} file.keeper book asked left (Err why)
-      by book wanted (inl told) = inl (tells_refusal bytes_of wanted why told)
+      by book wanted (inl answered) = inl (tells_refusal bytes_of wanted why answered)
       by book wanted (inr fails) = inr (fails_alike V file.keeper book asked left why fails)

@@ -6,7 +6,7 @@ use Rattle.rtgs_book.specs.declared.reading.Reading.TheVariants as reading
 use Rattle.rtgs_desk_lines.specs.declared.failure.Failure.{Failure}
 use Rattle.rtgs_desk_lines.specs.declared.printed.Printed.{Printed}
 use Rattle.rtgs_book_file.specs.OverFile.{OverFile}
-use Rattle.rtgs_desk_files.specs.declared.met.Met.{Met}
+use Rattle.rtgs_desk_files.specs.declared.used.Used.{Used}
 use Rattle.rtgs_desk_files.specs.declared.touched.Touched.{Touched}
 use Rattle.rtgs_desk_readings.specs.Readings.{is_gathered, Denies, Shows}
 
@@ -20,7 +20,7 @@ gathered (reading.Queue code) other = refl
 gathered (reading.Statement code date) other = absurd (other code date refl)
 gathered (reading.Report date) other = refl
 
-module _ {A K U C F P N : Type 0} (file : OverFile K U C) (touched : Touched A U C (Met F P N)) {asked other : Reading}
+module _ {A K U C F P N : Type 0} (file : OverFile K U C) (touched : Touched A U C (Used F P N)) {asked other : Reading}
     (same : asked ≡ other) where
   pub shown_for : (result : Result Printed Failure) (old new : Option (List ℕ))
       → IfOk result (λ printed. Shows file other touched printed old new)

@@ -56,8 +56,8 @@ module _ {K U C : Type 0} (file : OverFile K U C) {opened lent left finished : S
       → Promises (λ book. Tells text_of (text_wanted book reading) read ⊎ ReadingFails file.keeper book reading left
       read)
       → IsRead file text_of reading read finished
-  was_read text_of reading read stands told = subst (IsRead file text_of reading read) (sym same)
-      (is_done _ (λ was_honest book held. (stands was_honest book held, told was_honest book held)))
+  was_read text_of reading read stands answered = subst (IsRead file text_of reading read) (sym same)
+      (is_done _ (λ was_honest book held. (stands was_honest book held, answered was_honest book held)))
 
   pub was_written : (code : List ℕ) (date : ℕ) (written : Result ⊤ BookTextFault) (before after : Option (List ℕ))
       → Promises (λ book. StillHolds file.keeper book left)

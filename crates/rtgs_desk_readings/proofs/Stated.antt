@@ -14,26 +14,26 @@ use Rattle.rtgs_desk_lines.specs.declared.failure.Failure.{Failure}
 use Rattle.rtgs_desk_lines.specs.declared.failure.Failure.TheVariants.{Refused}
 use Rattle.rtgs_desk_lines.specs.declared.printed.Printed.{Printed}
 use Rattle.rtgs_book_file.specs.OverFile.{OverFile}
-use Rattle.rtgs_desk_files.specs.declared.met.Met.{Met}
-use Rattle.rtgs_desk_files.specs.declared.met.Met.TheVariants as met
+use Rattle.rtgs_desk_files.specs.declared.used.Used.{Used}
+use Rattle.rtgs_desk_files.specs.declared.used.Used.TheVariants as used
 use Rattle.rtgs_desk_files.specs.declared.touched.Touched.{Touched}
 use Rattle.rtgs_desk_files.specs.declared.touched.Touched.TheVariants as traces
 use Rattle.rtgs_desk_readings.specs.Outcomes.{outcome_of_text}
 use Rattle.rtgs_desk_readings.specs.Readings.{IsStated, IsWritten, States}
 
--- what is told as an unknown code was refused so
+-- what ends as an unknown code was refused so
 pub refused_as_unknown : (written : Result ⊤ BookTextFault)
     → outcome_of_text written ≡ Err (Refused UnknownParticipant) → written ≡ Err (text.Refused UnknownParticipant)
-refused_as_unknown (Ok done) told =
+refused_as_unknown (Ok done) is_outcome =
     let no : ⊥ = cc in
     absurd no
-refused_as_unknown (Err (text.Refused refusal)) told =
+refused_as_unknown (Err (text.Refused refusal)) is_outcome =
     let same : refusal ≡ UnknownParticipant = cc in
     ap (λ refusal. Err (text.Refused refusal)) same
-refused_as_unknown (Err (text.Text fault.OutOfMemory)) told =
+refused_as_unknown (Err (text.Text fault.OutOfMemory)) is_outcome =
     let no : ⊥ = cc in
     absurd no
-refused_as_unknown (Err (text.Text (fault.Write failed))) told =
+refused_as_unknown (Err (text.Text (fault.Write failed))) is_outcome =
     let no : ⊥ = cc in
     absurd no
 
@@ -47,8 +47,8 @@ module _ {K B U C E O : Type 0} (A F P N : Type 0) (file : OverFile K U C) (desk
       (book : B) (written : Result ⊤ BookTextFault) (is : finished ≡ Ok (book, written)) (closed : C)
       (shut : file.was_closed (desk_of book) closed) where
     -- what the run touched
-    abbrev shown : Touched A U C (Met F P N)
-    shown = traces.Book closed met.Nothing
+    abbrev shown : Touched A U C (Used F P N)
+    shown = traces.Book closed used.Nothing
 
     stated_with : IsStated file shown code date written (contents old) (contents new)
     stated_with = record {
@@ -63,4 +63,4 @@ module _ {K B U C E O : Type 0} (A F P N : Type 0) (file : OverFile K U C) (desk
     -- it came to what the text that was written so comes to
     pub states : (result outcome : Result Printed Failure) → result ≡ outcome_of_text written → result ≡ outcome
         → States file (reading.Statement code date) shown outcome (contents old) (contents new)
-    states result outcome told same = (code, date, written, refl, sym same ∙ told, stated_with)
+    states result outcome is_outcome same = (code, date, written, refl, sym same ∙ is_outcome, stated_with)

@@ -20,8 +20,8 @@ use Rattle.rtgs_book_file.specs.OverFile.{OverFile}
 use Rattle.rtgs_desk_files.specs.Done.{IsDone}
 use Rattle.rtgs_desk_files.specs.Printing.{PrintsText}
 use Rattle.rtgs_desk_files.specs.Touching.{IsClosed, IsNotOpened}
-use Rattle.rtgs_desk_files.specs.declared.met.Met.{Met}
-use Rattle.rtgs_desk_files.specs.declared.met.Met.TheVariants as met
+use Rattle.rtgs_desk_files.specs.declared.used.Used.{Used}
+use Rattle.rtgs_desk_files.specs.declared.used.Used.TheVariants as used
 use Rattle.rtgs_desk_files.specs.declared.touched.Touched.{Touched}
 use Rattle.rtgs_desk_readings.specs.Outcomes.{outcome_of_text}
 
@@ -45,38 +45,38 @@ module _ {K U C : Type 0} (file : OverFile K U C) where
 
 module _ {A K U C F P N : Type 0} (book_file : OverFile K U C) where
   -- what a run that shows a reading has to print: the text that it read
-  abbrev pub HasRead : Reading → Touched A U C (Met F P N) → List ℕ → Option Refusal → Type 0
+  abbrev pub HasRead : Reading → Touched A U C (Used F P N) → List ℕ → Option Refusal → Type 0
   HasRead reading touched text stopped =
-      (left : Seen K) × IsClosed book_file left met.Nothing touched
+      (left : Seen K) × IsClosed book_file left used.Nothing touched
       × IsRead book_file (λ read. read) reading (Ok text) left × (stopped ≡ None)
 
   -- why a run that shows a reading is refused
-  abbrev pub IsNotRead : Reading → Touched A U C (Met F P N) → Failure → Type 0
+  abbrev pub IsNotRead : Reading → Touched A U C (Used F P N) → Failure → Type 0
   IsNotRead reading touched why =
       IsNotOpened book_file touched why
-      ⊎ ((refusal : Refusal) × (left : Seen K) × IsClosed book_file left met.Nothing touched
+      ⊎ ((refusal : Refusal) × (left : Seen K) × IsClosed book_file left used.Nothing touched
       × IsRead book_file (λ read. read) reading (Err refusal) left × (why ≡ Refused refusal))
 
   -- A participant's statement was printed row by row, and the desk was left so.
-  pub record IsStated (touched : Touched A U C (Met F P N)) (code : List ℕ) (date : ℕ)
+  pub record IsStated (touched : Touched A U C (Used F P N)) (code : List ℕ) (date : ℕ)
       (written : Result ⊤ BookTextFault) (old new : Option (List ℕ)) : Type 0 where
     pub left : Seen K
-    pub closed : IsClosed book_file left met.Nothing touched
+    pub closed : IsClosed book_file left used.Nothing touched
     pub stated : IsWritten book_file code date written old new left
-    -- the store's fault is told where the store failed, and nowhere else
+    -- the store's fault is reported where the store failed, and nowhere else
     pub fault : written ≡ Err (text.Refused StoreFault) → book_file.keeper.has_failed left.keeper ≡ true
     -- whole lines were printed, whatever the disk gave back, unless the writer failed
     pub lines : LeavesLines written old new
 
   -- a run with this reading printed a statement row by row, and came to this
-  abbrev pub States : Reading → Touched A U C (Met F P N) → Result Printed Failure → Option (List ℕ)
+  abbrev pub States : Reading → Touched A U C (Used F P N) → Result Printed Failure → Option (List ℕ)
       → Option (List ℕ) → Type 0
   States asked touched outcome old new =
       (code : List ℕ) × (date : ℕ) × (written : Result ⊤ BookTextFault) × (asked ≡ reading.Statement code date)
       × (outcome ≡ outcome_of_text written) × IsStated touched code date written old new
 
   -- a run with this reading printed what it had to, and a statement row by row
-  abbrev pub Shows : Reading → Touched A U C (Met F P N) → Printed → Option (List ℕ) → Option (List ℕ) → Type 0
+  abbrev pub Shows : Reading → Touched A U C (Used F P N) → Printed → Option (List ℕ) → Option (List ℕ) → Type 0
   Shows reading touched printed old new =
       ((is_gathered reading ≡ true) × PrintsText (HasRead reading touched) printed old new)
       ⊎ States reading touched (Ok printed) old new
@@ -84,7 +84,7 @@ module _ {A K U C F P N : Type 0} (book_file : OverFile K U C) where
   -- Why a run with this reading is refused, and what it leaves on standard output: nothing, or the beginning of a
   -- statement that was refused after some of its rows. An unknown code is refused before a byte, and nothing is printed
   -- of a statement where no desk was opened.
-  abbrev pub Denies : {O : Type 0} → (O → Option (List ℕ)) → Reading → Touched A U C (Met F P N) → Failure → O → O
+  abbrev pub Denies : {O : Type 0} → (O → Option (List ℕ)) → Reading → Touched A U C (Used F P N) → Failure → O → O
       → Type 0
   Denies contents reading touched why out out' =
       ((IsNotOpened book_file touched why ⊎ ((is_gathered reading ≡ true) × IsNotRead reading touched why))

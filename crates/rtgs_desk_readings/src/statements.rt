@@ -10,7 +10,7 @@ ghost use Rattle.rtgs_desk_readings.specs.Outcomes.{outcome_of_text};
 ghost use Rattle.rtgs_desk_readings.specs.Readings.{Denies, IsWritten, Shows};
 
 use rtgs_book_file::{FileKeeper, Start};
-use rtgs_desk_files::{Acted, Finished, Met, Touched, close_book, failure_of_unopened, open};
+use rtgs_desk_files::{Acted, Finished, Touched, Used, close_book, failure_of_unopened, open};
 use rtgs_desk_lines::{Failure, Printed};
 use rtgs_desk_texts::write_statement;
 use rtgs_keeper::Keeper;
@@ -27,7 +27,7 @@ pub fn show_statement<S: Start, O: Write, F, P, N>(
     date: BusinessDate,
     start: S,
     out: &mut O,
-) -> Acted<S, Met<F, P, N>>
+) -> Acted<S, Used<F, P, N>>
     ensures printed { IfOk result.0 (λ printed. Shows
         (file_from ⟦<FileKeeper<S> as Keeper>⟧ S.Start (λ keeper. keeper.conn))
         (Reading.Statement code date) result.1 printed (O.contents out.old) (O.contents out.new)) }
@@ -37,7 +37,7 @@ pub fn show_statement<S: Start, O: Write, F, P, N>(
     ensures at { IsOf (file_from ⟦<FileKeeper<S> as Keeper>⟧ S.Start (λ keeper. keeper.conn)) file.now result.1 }
 {
     match close_book(write(rt, file, &code, date, start, out)) {
-        Ok((closed, written)) => (outcome(written), Touched::Book(closed, Met::Nothing)),
+        Ok((closed, written)) => (outcome(written), Touched::Book(closed, Used::Nothing)),
         Err(unopened) => (
             Err(failure_of_unopened(&unopened)),
             Touched::Refused(unopened),

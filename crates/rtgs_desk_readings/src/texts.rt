@@ -10,7 +10,7 @@ ghost use Rattle.rtgs_desk_readings.specs.Readings.{Denies, HasRead, IsNotRead, 
 use crate::statements::show_statement;
 use rtgs_book::{Reading, Refusal};
 use rtgs_book_file::{FileKeeper, Start};
-use rtgs_desk_files::{Acted, Finished, Met, Touched, close_book, failure_of_unopened, open};
+use rtgs_desk_files::{Acted, Finished, Touched, Used, close_book, failure_of_unopened, open};
 use rtgs_desk_lines::{Failure, Printed};
 use rtgs_desk_texts::text_of;
 use rtgs_keeper::Keeper;
@@ -25,7 +25,7 @@ pub fn show<S: Start, O: Write, F, P, N>(
     reading: Reading,
     start: S,
     out: &mut O,
-) -> Acted<S, Met<F, P, N>>
+) -> Acted<S, Used<F, P, N>>
     ensures printed { IfOk result.0 (λ printed. Shows
         (file_from ⟦<FileKeeper<S> as Keeper>⟧ S.Start (λ keeper. keeper.conn)) reading result.1 printed
         (O.contents out.old) (O.contents out.new)) }
@@ -46,7 +46,7 @@ fn show_text<S: Start, O: Write, F, P, N>(
     reading: Reading,
     start: S,
     out: &mut O,
-) -> Acted<S, Met<F, P, N>>
+) -> Acted<S, Used<F, P, N>>
     ensures printed { IfOk result.0 (λ printed. PrintsText
         (HasRead (file_from ⟦<FileKeeper<S> as Keeper>⟧ S.Start (λ keeper. keeper.conn)) reading result.1) printed
         (O.contents out.old) (O.contents out.new)) }
@@ -56,7 +56,7 @@ fn show_text<S: Start, O: Write, F, P, N>(
     ensures at { IsOf (file_from ⟦<FileKeeper<S> as Keeper>⟧ S.Start (λ keeper. keeper.conn)) file.now result.1 }
 {
     match close_book(read(rt, file, reading, start)) {
-        Ok((closed, read)) => (print_read(read, out), Touched::Book(closed, Met::Nothing)),
+        Ok((closed, read)) => (print_read(read, out), Touched::Book(closed, Used::Nothing)),
         Err(unopened) => (
             Err(failure_of_unopened(&unopened)),
             Touched::Refused(unopened),
@@ -98,7 +98,6 @@ fn print_read<O: Write>(read: Result<Vec<u8>, Refusal>, out: &mut O) -> Result<P
     }
 }
 
-// Prints a text.
 fn print_text<O: Write>(out: &mut O, text: &[u8]) -> Printed
     ensures { Prints text.now None result (O.contents out.old) (O.contents out.new) }
 {

@@ -12,7 +12,7 @@ use Rattle.rtgs_desk_lines.specs.declared.printed.Printed.{Printed}
 use Rattle.rtgs_http_server.specs.declared.port.Port.{Port}
 use Rattle.rtgs_book_file.specs.OverFile.{OverFile}
 use Rattle.rtgs_desk_files.specs.Done.{IsIdle}
-use Rattle.rtgs_desk_files.specs.declared.met.Met.{Met}
+use Rattle.rtgs_desk_files.specs.declared.used.Used.{Used}
 use Rattle.rtgs_desk_files.specs.declared.touched.Touched.{Touched}
 use Rattle.rtgs_desk_files.specs.declared.touched.Touched.TheVariants as traces
 use Rattle.rtgs_desk_serving.specs.Serving.{IsNotListening, IsNotServed, IsServed, Serves, ServedOver, TakesAt}
@@ -45,10 +45,11 @@ module _ {K U C : Type 0} (file : OverFile K U C) {opened lent left finished : S
       (refused, subst (IsIdle file) (sym (same ∙ idle ∙ lends)) (record { over = over }))
 
 module _ {K B U C E F : Type 0} (A : Type 0) (file : OverFile K U C) (desk_of : B → Seen K)
-    (finished : Result (B × (Result Printed Failure × Met F (Snapshot Port) (Snapshot NoPort))) E) (book : B)
-    (beside : Met F (Snapshot Port) (Snapshot NoPort)) (closed : C) (shut : file.was_closed (desk_of book) closed) where
+    (finished : Result (B × (Result Printed Failure × Used F (Snapshot Port) (Snapshot NoPort))) E) (book : B)
+    (beside : Used F (Snapshot Port) (Snapshot NoPort)) (closed : C)
+    (shut : file.was_closed (desk_of book) closed) where
   -- what the run touched
-  abbrev touched : Touched A U C (Met F (Snapshot Port) (Snapshot NoPort))
+  abbrev touched : Touched A U C (Used F (Snapshot Port) (Snapshot NoPort))
   touched = traces.Book closed beside
 
   module _ (port count : ℕ) (operator : List ℕ) (old new : Option (List ℕ)) where

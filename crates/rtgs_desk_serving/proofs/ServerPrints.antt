@@ -8,28 +8,28 @@ use Rattle.rtgs_output.specs.Sent.{AppendsPart}
 use Rattle.rtgs_output.specs.declared.writer_failed.WriterFailed.{WriterFailed}
 use Rattle.rtgs_desk_lines.specs.Lines.{done_line}
 use Rattle.rtgs_desk_lines.specs.Texts.{Prints, printed_of}
-use Rattle.rtgs_desk_lines.specs.Told.{IsTold}
+use Rattle.rtgs_desk_lines.specs.SentTo.{IsSentTo}
 use Rattle.rtgs_desk_lines.specs.declared.done.Done.TheVariants.{Listening, Served}
 use Rattle.rtgs_desk_lines.specs.declared.printed.Printed.TheVariants.{Whole, Stopped, Lost}
 use Rattle.rtgs_desk_files.specs.Printing.{ended_line}
-use Rattle.rtgs_desk_serving.specs.Serving.{server_text, stop_of_desk, TakesAsTold}
+use Rattle.rtgs_desk_serving.specs.Serving.{server_text, stop_of_desk, TakesAsPrinted}
 use Rattle.rtgs_desk_serving.proofs.PrintedAfter.{appends_both, appends_part_after, appends_part_before}
 
-both_lines : (old mid new : Option (List ℕ)) (first second : List ℕ) (told : Result ⊤ WriterFailed)
-    → Appends old mid first → IsTold told mid new second → Prints (first ++ second) None (printed_of told) old new
+both_lines : (old mid new : Option (List ℕ)) (first second : List ℕ) (sent : Result ⊤ WriterFailed)
+    → Appends old mid first → IsSentTo sent mid new second → Prints (first ++ second) None (printed_of sent) old new
 both_lines old mid new first second (Ok done) one two = (refl, appends_both old mid new first second one two)
 both_lines old mid new first second (Err failed) one two = appends_part_after old mid new first second one two
 
 module _ (port count : ℕ) (old : Option (List ℕ)) where
   -- all were served, as far as the desk goes
-  pub served_prints : (failed : Bool) (mid new : Option (List ℕ)) (told : Result ⊤ WriterFailed) → failed ≡ false
+  pub served_prints : (failed : Bool) (mid new : Option (List ℕ)) (sent : Result ⊤ WriterFailed) → failed ≡ false
       → Appends old mid (ended_line (done_line (Listening port)))
-      → IsTold told mid new (ended_line (done_line (Served count)))
-      → Prints (server_text port count failed) (stop_of_desk failed) (printed_of told) old new
-  served_prints true mid new told works one two =
+      → IsSentTo sent mid new (ended_line (done_line (Served count)))
+      → Prints (server_text port count failed) (stop_of_desk failed) (printed_of sent) old new
+  served_prints true mid new sent works one two =
       let no : ⊥ = cc in
       absurd no
-  served_prints false mid new told works one two = both_lines old mid new _ _ told one two
+  served_prints false mid new sent works one two = both_lines old mid new _ _ sent one two
 
   -- the desk failed
   pub stopped_prints : (failed : Bool) (new : Option (List ℕ)) → failed ≡ true
@@ -48,7 +48,7 @@ module _ (port count : ℕ) (old : Option (List ℕ)) where
 
   -- of a server of which nobody heard no connection was taken
   pub none_taken : (left : ℕ) (new : Option (List ℕ)) (why : WriterFailed) → left ≡ count
-      → TakesAsTold port count left (Lost why) old new
+      → TakesAsPrinted port count left (Lost why) old new
   none_taken left new why same = (none_whole, inl same)
     where
       none_whole : Lost why ≡ Whole → left ≡ 0
@@ -58,7 +58,7 @@ module _ (port count : ℕ) (old : Option (List ℕ)) where
 
   -- connections were taken until the desk failed
   pub taken_until : (left : ℕ) (new : Option (List ℕ)) → Appends old new (ended_line (done_line (Listening port)))
-      → TakesAsTold port count left (Stopped Failed) old new
+      → TakesAsPrinted port count left (Stopped Failed) old new
   taken_until left new one = (none_whole, inr ([], subst (Appends old new) (sym (append-nil _)) one))
     where
       none_whole : Stopped Failed ≡ Whole → left ≡ 0
@@ -67,9 +67,9 @@ module _ (port count : ℕ) (old : Option (List ℕ)) where
           absurd no
 
   -- all connections were taken
-  pub all_taken : (left : ℕ) (mid new : Option (List ℕ)) (second : List ℕ) (told : Result ⊤ WriterFailed) → left ≡ 0
-      → Appends old mid (ended_line (done_line (Listening port))) → IsTold told mid new second
-      → TakesAsTold port count left (printed_of told) old new
+  pub all_taken : (left : ℕ) (mid new : Option (List ℕ)) (second : List ℕ) (sent : Result ⊤ WriterFailed) → left ≡ 0
+      → Appends old mid (ended_line (done_line (Listening port))) → IsSentTo sent mid new second
+      → TakesAsPrinted port count left (printed_of sent) old new
   all_taken left mid new second (Ok done) none one two =
       ((λ _. none), inr (second, appends_both old mid new _ second one two))
   all_taken left mid new second (Err failed) none one two =

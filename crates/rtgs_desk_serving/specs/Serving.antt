@@ -17,15 +17,15 @@ use Rattle.rtgs_desk_lines.specs.declared.failure.Failure.{Failure}
 use Rattle.rtgs_desk_lines.specs.declared.failure.Failure.TheVariants.{Refused, NoListen}
 use Rattle.rtgs_desk_lines.specs.declared.printed.Printed.{Printed}
 use Rattle.rtgs_desk_lines.specs.declared.printed.Printed.TheVariants.{Whole}
-use Rattle.rtgs_http_banks.specs.Dealings.{Makes}
+use Rattle.rtgs_http_banks.specs.Handling.{Makes}
 use Rattle.rtgs_http_server.specs.Requests.{AreAsked}
 use Rattle.rtgs_http_server.specs.declared.port.Port.{Port}
 use Rattle.rtgs_book_file.specs.OverFile.{OverFile}
 use Rattle.rtgs_desk_files.specs.Done.{IsDone, IsIdle}
 use Rattle.rtgs_desk_files.specs.Printing.{ended_line, PrintsText}
-use Rattle.rtgs_desk_files.specs.Touching.{met_of, IsClosed, IsNotOpened}
-use Rattle.rtgs_desk_files.specs.declared.met.Met.{Met}
-use Rattle.rtgs_desk_files.specs.declared.met.Met.TheVariants as met
+use Rattle.rtgs_desk_files.specs.Touching.{used_of, IsClosed, IsNotOpened}
+use Rattle.rtgs_desk_files.specs.declared.used.Used.{Used}
+use Rattle.rtgs_desk_files.specs.declared.used.Used.TheVariants as used
 use Rattle.rtgs_desk_files.specs.declared.touched.Touched.{Touched}
 use Rattle.rtgs_desk_serving.specs.declared.no_port.NoPort.{NoPort}
 
@@ -34,9 +34,9 @@ abbrev pub failure_of_listening : ErrorKind → Failure
 failure_of_listening kind.OutOfMemory = Refused OutOfMemory
 failure_of_listening _ = NoListen
 
--- the run did not have its port, and what listening answered is told so
-abbrev pub IsNotListening : {F P : Type 0} → Met F P (Snapshot NoPort) → Failure → Type 0
-IsNotListening (met.NoPort refused) why = why ≡ failure_of_listening (error_kind refused.value.error)
+-- the run did not have its port, and what listening answered is reported so
+abbrev pub IsNotListening : {F P : Type 0} → Used F P (Snapshot NoPort) → Failure → Type 0
+IsNotListening (used.NoPort refused) why = why ≡ failure_of_listening (error_kind refused.value.error)
 IsNotListening _ why = ⊥
 
 -- that connections are taken on this port, and then how many were served, unless the desk has failed
@@ -46,14 +46,14 @@ server_text port count failed = ended_line (done_line (Listening port))
 
 -- Of so many connections on a port some are left. None is where all was printed; and all are, where the line that says
 -- on which port they are taken was not printed whole.
-abbrev pub TakesAsTold : ℕ → ℕ → ℕ → Printed → Option (List ℕ) → Option (List ℕ) → Type 0
-TakesAsTold port count left printed old new = (printed ≡ Whole → left ≡ 0)
+abbrev pub TakesAsPrinted : ℕ → ℕ → ℕ → Printed → Option (List ℕ) → Option (List ℕ) → Type 0
+TakesAsPrinted port count left printed old new = (printed ≡ Whole → left ≡ 0)
     × ((left ≡ count) ⊎ ((rest : List ℕ) × Appends old new (ended_line (done_line (Listening port)) ++ rest)))
 
 -- the same of the port that a run met
-abbrev pub TakesAt : {F N : Type 0} → ℕ → ℕ → Met F (Snapshot Port) N → Printed → Option (List ℕ) → Option (List ℕ)
+abbrev pub TakesAt : {F N : Type 0} → ℕ → ℕ → Used F (Snapshot Port) N → Printed → Option (List ℕ) → Option (List ℕ)
     → Type 0
-TakesAt port count (met.Port left) printed old new = TakesAsTold port count left.value.left printed old new
+TakesAt port count (used.Port left) printed old new = TakesAsPrinted port count left.value.left printed old new
 TakesAt port count _ printed old new = ⊥
 
 -- a server stops where its desk has failed
@@ -75,22 +75,22 @@ module _ {K U C : Type 0} (file : OverFile K U C) where
 
 module _ {A K U C F : Type 0} (file : OverFile K U C) where
   -- what a run that serves so many connections on a port has to print, and where it stops: the lines of its server
-  abbrev pub HasServed : ℕ → ℕ → List ℕ → Touched A U C (Met F (Snapshot Port) (Snapshot NoPort)) → List ℕ
+  abbrev pub HasServed : ℕ → ℕ → List ℕ → Touched A U C (Used F (Snapshot Port) (Snapshot NoPort)) → List ℕ
       → Option Refusal → Type 0
   HasServed port count operator touched text stopped =
-      (left : Seen K) × IsClosed file left (met_of touched) touched × IsServed file operator left
+      (left : Seen K) × IsClosed file left (used_of touched) touched × IsServed file operator left
       × (text ≡ server_text port count (file.keeper.has_failed left.keeper))
       × (stopped ≡ stop_of_desk (file.keeper.has_failed left.keeper))
 
   -- the run printed these, as far as standard output took them, and took its connections as it said
-  abbrev pub Serves : ℕ → ℕ → List ℕ → Touched A U C (Met F (Snapshot Port) (Snapshot NoPort)) → Printed
+  abbrev pub Serves : ℕ → ℕ → List ℕ → Touched A U C (Used F (Snapshot Port) (Snapshot NoPort)) → Printed
       → Option (List ℕ) → Option (List ℕ) → Type 0
   Serves port count operator touched printed old new =
       PrintsText (HasServed port count operator touched) printed old new
-      × TakesAt port count (met_of touched) printed old new
+      × TakesAt port count (used_of touched) printed old new
 
   -- why such a run is refused
-  abbrev pub IsNotServed : Touched A U C (Met F (Snapshot Port) (Snapshot NoPort)) → Failure → Type 0
+  abbrev pub IsNotServed : Touched A U C (Used F (Snapshot Port) (Snapshot NoPort)) → Failure → Type 0
   IsNotServed touched why =
-      IsNotOpened file touched why ⊎ (IsNotListening (met_of touched) why × (left : Seen K)
-      × IsClosed file left (met_of touched) touched × IsIdle file left)
+      IsNotOpened file touched why ⊎ (IsNotListening (used_of touched) why × (left : Seen K)
+      × IsClosed file left (used_of touched) touched × IsIdle file left)

@@ -26,7 +26,7 @@ impl NoPort {
         }
     }
 
-    /// How it is told.
+    /// The failure that it is reported as.
     pub(crate) fn failure(&self) -> Failure
         ensures { result ≡ failure_of_listening (error_kind self.now.error) }
     {

@@ -9,13 +9,13 @@ ghost use Rattle.rtgs_http_server.specs.Requests.{WorksForAll};
 ghost use Rattle.rtgs_desk_files.specs.Done.{IsIdle};
 ghost use Rattle.rtgs_desk_files.specs.Touching.{IsOf};
 ghost use Rattle.rtgs_desk_serving.specs.Serving.{IsNotListening, IsNotServed, IsServed, Serves, ServedOver};
-ghost use Rattle.rtgs_desk_serving.specs.Serving.{server_text, stop_of_desk, TakesAsTold, TakesAt};
+ghost use Rattle.rtgs_desk_serving.specs.Serving.{server_text, stop_of_desk, TakesAsPrinted, TakesAt};
 
 use crate::no_port::NoPort;
 use rtgs_book::Refusal;
 use rtgs_book_file::{FileKeeper, Start};
 use rtgs_desk::Desk;
-use rtgs_desk_files::{Acted, Finished, Met, Touched, close_book, failure_of_unopened, open};
+use rtgs_desk_files::{Acted, Finished, Touched, Used, close_book, failure_of_unopened, open};
 use rtgs_desk_lines::{Done, Failure, Printed};
 use rtgs_http_server::laws::a_desk_at_rest_works_for_all;
 use rtgs_http_server::{Connections, Port, serve_connections};
@@ -27,7 +27,7 @@ use std::io::Write;
 use std::snapshot::Snapshot;
 
 // What a run that serves connections met beside the file of its book: its port, or that it had none.
-type MetPort<F> = Met<F, Snapshot<Port>, Snapshot<NoPort>>;
+type PortUsed<F> = Used<F, Snapshot<Port>, Snapshot<NoPort>>;
 
 /// Serves so many connections to the desk over a file on a port of this machine, one after another, and says so. A run
 /// whose desk fails ends as stopped, after the connection on which it failed.
@@ -39,7 +39,7 @@ pub fn serve<S: Start, O: Write, F>(
     operator: KeyDigest,
     start: S,
     out: &mut O,
-) -> Acted<S, Met<F, Snapshot<Port>, Snapshot<NoPort>>>
+) -> Acted<S, Used<F, Snapshot<Port>, Snapshot<NoPort>>>
     ensures printed { IfOk result.0 (λ printed. Serves
         (file_from ⟦<FileKeeper<S> as Keeper>⟧ S.Start (λ keeper. keeper.conn)) port count operator result.1 printed
         (O.contents out.old) (O.contents out.new)) }
@@ -50,8 +50,8 @@ pub fn serve<S: Start, O: Write, F>(
 {
     match close_book(serve_book(rt, file, port, count, &operator, start, out)) {
         Ok((closed, done)) => {
-            let (served, met) = done;
-            (served, Touched::Book(closed, met))
+            let (served, used) = done;
+            (served, Touched::Book(closed, used))
         }
         Err(unopened) => (
             Err(failure_of_unopened(&unopened)),
@@ -69,7 +69,7 @@ fn serve_book<S: Start, O: Write, F>(
     operator: &KeyDigest,
     start: S,
     out: &mut O,
-) -> Finished<S, (Result<Printed, Failure>, MetPort<F>)>
+) -> Finished<S, (Result<Printed, Failure>, PortUsed<F>)>
     ensures served { IfOk result (λ (book, done). IfOk done.0 (λ printed.
         IsServed (file_from ⟦<FileKeeper<S> as Keeper>⟧ S.Start (λ keeper. keeper.conn)) operator.now book.desk
         × Prints (server_text port count (⟦<FileKeeper<S> as Keeper>⟧.has_failed book.desk.keeper))
@@ -101,7 +101,7 @@ fn serve_desk<S: Start, O: Write, F>(
     count: u32,
     operator: &KeyDigest,
     out: &mut O,
-) -> (Result<Printed, Failure>, MetPort<F>)
+) -> (Result<Printed, Failure>, PortUsed<F>)
     ensures served { IfOk result.0 (λ printed. (⟦<FileKeeper<S> as Keeper>⟧.is_honest desk.new.keeper
         → (book : Book) → Holds ⟦<FileKeeper<S> as Keeper>⟧ desk.old book
         → ServedOver (file_from ⟦<FileKeeper<S> as Keeper>⟧ S.Start (λ keeper. keeper.conn)) operator.now book
@@ -121,9 +121,9 @@ fn serve_desk<S: Start, O: Write, F>(
         Ok(mut connections) => {
             let printed = serve_all(rt.alloc(), &mut connections, desk, operator, port, out);
             what_a_session_leaves(desk);
-            (Ok(printed), Met::Port(Snapshot::of(&connections)))
+            (Ok(printed), Used::Port(Snapshot::of(&connections)))
         }
-        Err(refused) => (Err(refused.failure()), Met::NoPort(Snapshot::of(&refused))),
+        Err(refused) => (Err(refused.failure()), Used::NoPort(Snapshot::of(&refused))),
     }
 }
 
@@ -142,7 +142,7 @@ fn serve_all<C: Connections, K: Keeper, O: Write>(
     ensures honest { K.is_honest desk.new.keeper → K.is_honest desk.old.keeper }
     ensures printed { Prints (server_text port (C.to_come connections.old) (K.has_failed desk.new.keeper))
         (stop_of_desk (K.has_failed desk.new.keeper)) result (O.contents out.old) (O.contents out.new) }
-    ensures taken { TakesAsTold port (C.to_come connections.old) (C.to_come connections.new) result
+    ensures taken { TakesAsPrinted port (C.to_come connections.old) (C.to_come connections.new) result
         (O.contents out.old) (O.contents out.new) }
 {
     a_desk_at_rest_works_for_all(desk);

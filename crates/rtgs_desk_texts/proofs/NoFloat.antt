@@ -19,8 +19,8 @@ members_have_no_float value reading = rw (signed_has_no_float value) refl
 
 dated_have_no_float : (date : Option ℕ) (members : Members) → members_have_float members ≡ false
     → members_have_float (with_date date members) ≡ false
-dated_have_no_float (Some date) told none = none
-dated_have_no_float None told none = none
+dated_have_no_float (Some date) answered none = none
+dated_have_no_float None answered none = none
 
 pub account_has_no_float : (value : ℤ) (reading : AccountReading) → has_float (account_with value reading) ≡ false
 account_has_no_float value reading = rw (

@@ -24,7 +24,7 @@ use Rattle.rtgs_book.specs.Ranges.{Fits}
 use Rattle.rtgs_book.specs.Soundness.{IsSound}
 use Rattle.rtgs_book.specs.declared.refusal.Refusal.{Refusal}
 use Rattle.rtgs_book.specs.declared.limits.TheConstants.{LONGEST_QUEUE}
-use Rattle.rtgs_desk.specs.Readings.{if_known, account_told, reading_of, readings_of, value_of}
+use Rattle.rtgs_desk.specs.Readings.{if_known, account_answer, reading_of, readings_of, value_of}
 use Rattle.rtgs_desk.specs.declared.reading.AccountReading.{AccountReading}
 use Rattle.rtgs_desk_texts.specs.Accounts.{QueuedValuesFit}
 
@@ -90,12 +90,12 @@ value_fits book code fits short =
     fits_signed_from_abs w64 (pos (value_of (queue book code)))
     (omega (arith, queue_bounded book code fits, queue_within book code, short))
 
-ok_is : (a b : AccountReading) (told : Result AccountReading Refusal) → told ≡ Ok a → told ≡ Ok b → a ≡ b
-ok_is a b told one other = cc
+ok_is : (a b : AccountReading) (answered : Result AccountReading Refusal) → answered ≡ Ok a → answered ≡ Ok b → a ≡ b
+ok_is a b answered one other = cc
 
 pub queued_fits : (book : Book) (code : List ℕ) (reading : AccountReading) → IsSound book → Fits book
-    → account_told book code ≡ Ok reading → FitsSigned w64 reading.queued_value
-queued_fits book code reading sound fits told = by (participant_of book code) refl told
+    → account_answer book code ≡ Ok reading → FitsSigned w64 reading.queued_value
+queued_fits book code reading sound fits answered = by (participant_of book code) refl answered
   where
     by : (o : Option Participant) → participant_of book code ≡ o
         → if_known o (λ participant. Ok (record {
@@ -105,9 +105,9 @@ queued_fits book code reading sound fits told = by (participant_of book code) re
           queued = length (queue book code);
           queued_value = pos (value_of (queue book code));
         })) ≡ Ok reading → FitsSigned w64 reading.queued_value
-    by None e told = absurd (cc)
-    by (Some found) e told = subst (FitsSigned w64) (ap (λ (r : AccountReading). r.queued_value)
-        (ok_is _ _ _ refl told)) (value_fits book code fits (known_short book code found sound e))
+    by None e answered = absurd (cc)
+    by (Some found) e answered = subst (FitsSigned w64) (ap (λ (r : AccountReading). r.queued_value)
+        (ok_is _ _ _ refl answered)) (value_fits book code fits (known_short book code found sound e))
 
 -- so it is with each participant
 each_fits : (book : Book) (participants : List Participant) → Fits book

@@ -22,20 +22,19 @@ appends-none None = tt
 appends-none (Some bytes) = sym (append-nil bytes)
 
 module _ {X : Type 0} (old : Option (List ℕ)) (text : List ℕ) (account : Participant → X) where
-  -- an account that was refused
   pub refused_account : (known : Option Participant) (refusal : Refusal) → 0 < length text
       → Tells {X = X} {Y = X} (λ a. a) (if_known known (λ p. Ok (account p))) (Err refusal)
       → Writes old (if_known known (λ p. Ok text)) (Err (Refused refusal)) old
-  refused_account None refusal some told =
+  refused_account None refusal some answered =
       let same : refusal ≡ UnknownParticipant = cc in (ap (λ r. Err (Refused r)) same, refl)
-  refused_account (Some p) refusal some told = (inl told, (0, some, appends-none old))
+  refused_account (Some p) refusal some answered = (inl answered, (0, some, appends-none old))
 
-  -- an account that was told
+  -- an account that was answered
   pub known_account : (known : Option Participant) (a : X) (result : Result ⊤ BookTextFault) (new : Option (List ℕ))
       → Tells {X = X} {Y = X} (λ a. a) (if_known known (λ p. Ok (account p))) (Ok a) → Writes old (Ok text) result new
       → Writes old (if_known known (λ p. Ok text)) result new
-  known_account None a result new told writes = let no : ⊥ = cc in absurd no
-  known_account (Some p) a result new told writes = writes
+  known_account None a result new answered writes = let no : ⊥ = cc in absurd no
+  known_account (Some p) a result new answered writes = writes
 
 pub written : (old new : Option (List ℕ)) (text : List ℕ) (result : Result ⊤ BookTextFault)
     → OnOk result (Appends old new text) → OnErr result (AppendsPart old new text)
@@ -59,7 +58,7 @@ pub refused_order : {V F : Type 0} (text_of : V → List ℕ) (value_of : Order 
     ⊎ ((known ≢ None) × (◌≡◌ {A = Result V Refusal} (Err refusal) (Err OutOfMemory)
     ⊎ (F × ◌≡◌ {A = Result V Refusal} (Err refusal) (Err StoreFault))))
 refused_order text_of value_of known named refusal (inl is) fault =
-    inl (subst (λ told. Tells text_of (json_line value_of told) (Err refusal)) is refl)
+    inl (subst (λ answered. Tells text_of (json_line value_of answered) (Err refusal)) is refl)
 refused_order text_of value_of known named refusal (inr (some, inl is)) fault =
     let same : refusal ≡ OutOfMemory = cc in
     inr ((λ none. some (ap (λ o. if_known o (λ p. ok_or named UnknownOrder)) none)), inl (ap Err same))

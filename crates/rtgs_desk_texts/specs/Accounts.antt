@@ -34,7 +34,7 @@ account_with value reading = object (member (codes "balance") (signed reading.ba
     (member (codes "code") (string reading.participant.code) (member (codes "credit") (whole reading.participant.credit)
     (with_date reading.day.date (account_members value reading)))))
 
--- what a participant is told of its account
+-- what a participant is shown of its account
 abbrev pub account_data : AccountReading → Data
 account_data reading = account_with reading.queued_value reading
 
@@ -49,7 +49,7 @@ listed_with value reading = object (member (codes "balance") (signed reading.bal
     (member (codes "lacking") (whole (lacking reading.balance)) (member (codes "name") (string reading.participant.name)
     (member (codes "queued") (whole reading.queued) (member (codes "queued_value") (signed value) no_members)))))))
 
--- what the operator is told of one of all accounts
+-- what the operator is shown of one of all accounts
 abbrev pub listed : AccountReading → Data
 listed reading = listed_with reading.queued_value reading
 
@@ -57,7 +57,7 @@ listed reading = listed_with reading.queued_value reading
 abbrev pub day_members : Day → Members
 day_members day = with_date day.date (member (codes "phase") (string (phase_name day.phase)) no_members)
 
--- what the operator is told of all accounts on this day
+-- what the operator is shown of all accounts on this day
 abbrev pub accounts_data : Day → List AccountReading → Data
 accounts_data day readings =
     object (member (codes "accounts") (array (items_of (map listed readings))) (day_members day))

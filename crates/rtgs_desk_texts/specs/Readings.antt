@@ -9,23 +9,23 @@ use Rattle.rtgs_book.specs.declared.refusal.Refusal.{Refusal}
 use Rattle.rtgs_book.specs.declared.refusal.Refusal.TheVariants.{OutOfMemory}
 use Rattle.rtgs_book.specs.Lookup.{participant_of}
 use Rattle.rtgs_keeper.specs.declared.keeper.Keeper.{Ghosts}
-use Rattle.rtgs_desk.specs.Readings.{account_told, accounts_told, order_told, queue_told}
+use Rattle.rtgs_desk.specs.Readings.{account_answer, accounts_answer, order_answer, queue_answer}
 use Rattle.rtgs_desk.specs.Seen.{Seen}
 use Rattle.rtgs_http_bodies.specs.Readings.{order_data, queue_data}
 use Rattle.rtgs_desk_texts.specs.Accounts.{account_data, accounts_data}
 use Rattle.rtgs_desk_texts.specs.Written.{IsLost, statement_wanted, report_wanted}
 
--- what is told, as JSON without spaces, and a line feed
+-- what is answered, as JSON without spaces, and a line feed
 abbrev pub json_line : {X : Type 0} → (X → Data) → Result X Refusal → Result (List ℕ) Refusal
 json_line value_of (Ok x) = Ok (compact_text (value_of x) ++ 10 ∷ [])
 json_line value_of (Err refusal) = Err refusal
 
 -- the text of a reading, or what refuses it
 abbrev pub text_wanted : Book → Reading → Result (List ℕ) Refusal
-text_wanted book (reading.Order sender reference) = json_line order_data (order_told book sender reference)
-text_wanted book (reading.Account code) = json_line account_data (account_told book code)
-text_wanted book reading.Accounts = json_line (accounts_data book.day) (accounts_told book)
-text_wanted book (reading.Queue code) = json_line queue_data (queue_told book code)
+text_wanted book (reading.Order sender reference) = json_line order_data (order_answer book sender reference)
+text_wanted book (reading.Account code) = json_line account_data (account_answer book code)
+text_wanted book reading.Accounts = json_line (accounts_data book.day) (accounts_answer book)
+text_wanted book (reading.Queue code) = json_line queue_data (queue_answer book code)
 text_wanted book (reading.Statement code date) = statement_wanted book code date
 text_wanted book (reading.Report date) = report_wanted book date
 

@@ -19,7 +19,6 @@ use Rattle.rtgs_statements.specs.declared.book_text_fault.BookTextFault.TheVaria
 abbrev pub statement_wanted : Book → List ℕ → ℕ → Result (List ℕ) Refusal
 statement_wanted book code date = if_known (participant_of book code) (λ participant. Ok (statement book code date))
 
--- the day's report
 abbrev pub report_wanted : Book → ℕ → Result (List ℕ) Refusal
 report_wanted book date = Ok (report book date)
 

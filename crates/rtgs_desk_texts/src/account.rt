@@ -1,4 +1,4 @@
-//! What a participant is told of its account.
+//! What a participant is shown of its account.
 ghost use Rattle.std.specs.Prelude.{◌≡◌, FitsSigned, Some, None, IfOk};
 ghost use Rattle.std.specs.Int.{w64};
 ghost use Rattle.serde_json.specs.View.{view};
@@ -23,8 +23,8 @@ pub fn account_reply(alloc: Global, reading: &AccountReading) -> Result<Reply, A
     Reply::new(alloc, StatusCode::OK, ContentType::Json, text.as_slice())
 }
 
-/// What a participant is told of its account, as JSON, with the date once a day was opened. What its queue pays
-/// together is told up to 2^63 - 1 cents, and no queue of a desk pays more. The only error is lack of memory.
+/// What a participant is shown of its account, as JSON, with the date once a day was opened. What its queue pays
+/// together is shown up to 2^63 - 1 cents, and no queue of a desk pays more. The only error is lack of memory.
 pub fn account_text(alloc: Global, reading: &AccountReading) -> Result<Vec<u8>, AllocError>
     ensures { FitsSigned w64 reading.now.queued_value
         → IfOk result (λ text. text.items ≡ compact_text (account_data reading.now)) }
@@ -48,7 +48,7 @@ fn in_64_bits(cents: i128) -> i64
     i64::try_from(cents).unwrap_or(i64::MAX)
 }
 
-// What is told of an account, with the date once a day was opened.
+// The JSON value of an account, with the date once a day was opened.
 fn account_value(
     alloc: Global,
     reading: &AccountReading,
@@ -62,7 +62,7 @@ fn account_value(
     }
 }
 
-// What is told of an account on this date.
+// The JSON value of an account on this date.
 fn dated_value(
     alloc: Global,
     reading: &AccountReading,
@@ -92,7 +92,7 @@ fn dated_value(
     })
 }
 
-// What is told of an account before the first day.
+// The JSON value of an account before the first day.
 fn undated_value(
     alloc: Global,
     reading: &AccountReading,

@@ -1,4 +1,4 @@
-//! What the operator is told of all accounts.
+//! What the operator is shown of all accounts.
 ghost use Rattle.std.specs.Prelude.{◌≡◌, FitsSigned, Some, None, map, IfOk};
 ghost use Rattle.std.specs.Int.{w64};
 ghost use Rattle.serde_json.specs.View.{view};
@@ -28,9 +28,9 @@ pub fn accounts_reply(
     Reply::new(alloc, StatusCode::OK, ContentType::Json, text.as_slice())
 }
 
-/// What the operator is told of all accounts, as JSON, in their order: of each what its participant is told, and what
+/// What the operator is shown of all accounts, as JSON, in their order: of each what its participant is shown, and what
 /// it lacks before the day can be closed; then the phase, and the date once a day was opened. What a queue pays
-/// together is told up to 2^63 - 1 cents, and no queue of a desk pays more. The only error is lack of memory.
+/// together is shown up to 2^63 - 1 cents, and no queue of a desk pays more. The only error is lack of memory.
 pub fn accounts_text(
     alloc: Global,
     day: Day,
@@ -43,7 +43,7 @@ pub fn accounts_text(
     value.to_vec(alloc)
 }
 
-// What is told of all accounts, with the date once a day was opened.
+// What is shown of all accounts, with the date once a day was opened.
 fn accounts_value(alloc: Global, day: Day, accounts: &[AccountReading]) -> Result<Value, AllocError>
     ensures { QueuedValuesFit accounts.now → IfOk result (λ value. view value ≡ accounts_data day accounts.now) }
 {
@@ -53,7 +53,7 @@ fn accounts_value(alloc: Global, day: Day, accounts: &[AccountReading]) -> Resul
     }
 }
 
-// What is told of all accounts on this date.
+// What is shown of all accounts on this date.
 fn dated_value(
     alloc: Global,
     day: Day,
@@ -74,7 +74,7 @@ fn dated_value(
     })
 }
 
-// What is told of all accounts before the first day.
+// What is shown of all accounts before the first day.
 fn undated_value(alloc: Global, day: Day, accounts: &[AccountReading]) -> Result<Value, AllocError>
     requires { day.date ≡ None }
     ensures { QueuedValuesFit accounts.now → IfOk result (λ value. view value ≡ accounts_data day accounts.now) }
@@ -87,7 +87,7 @@ fn undated_value(alloc: Global, day: Day, accounts: &[AccountReading]) -> Result
     })
 }
 
-// What is told of each account, in order.
+// What is shown of each account, in order.
 fn listed_values(alloc: Global, accounts: &[AccountReading]) -> Result<Vec<Value>, AllocError>
     ensures { QueuedValuesFit accounts.now → IfOk result (λ items. map view items.items ≡ map listed accounts.now) }
 {
@@ -99,7 +99,7 @@ fn listed_values(alloc: Global, accounts: &[AccountReading]) -> Result<Vec<Value
     Ok(items)
 }
 
-// What is told of one of all accounts, whose queue pays so much.
+// What is shown of one of all accounts, whose queue pays so much.
 fn listed_value(
     alloc: Global,
     account: &AccountReading,

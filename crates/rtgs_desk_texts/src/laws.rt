@@ -1,10 +1,10 @@
-//! What accounts are told, as a law over the definitions.
+//! What is shown of accounts, as a law over the definitions.
 ghost use Rattle.std.specs.Prelude.{◌≡◌, ℕ, List, Ok, FitsSigned};
 ghost use Rattle.std.specs.Int.{w64};
 ghost use Rattle.rtgs_book.specs.declared.book.Book.{Book};
 ghost use Rattle.rtgs_book.specs.Ranges.{Fits};
 ghost use Rattle.rtgs_book.specs.Soundness.{IsSound};
-ghost use Rattle.rtgs_desk.specs.Readings.{account_told, readings_of};
+ghost use Rattle.rtgs_desk.specs.Readings.{account_answer, readings_of};
 ghost use Rattle.rtgs_desk.specs.declared.reading.AccountReading.{AccountReading};
 ghost use Rattle.rtgs_desk_texts.specs.Accounts.{QueuedValuesFit};
 
@@ -12,7 +12,7 @@ ghost use Rattle.rtgs_desk_texts.specs.Accounts.{QueuedValuesFit};
 /// in their ranges.
 pub fn queued_values_fit()
     ensures { (book : Book) (code : List ℕ) (reading : AccountReading) → IsSound book → Fits book
-        → account_told book code ≡ Ok reading → FitsSigned w64 reading.queued_value }
+        → account_answer book code ≡ Ok reading → FitsSigned w64 reading.queued_value }
 {}
 
 /// So it is in all accounts of the book together.

@@ -1,5 +1,5 @@
 //! The texts of a desk's book, from the book to the bytes: a participant's statement and the day report, and what is
-//! told of one account and of all, of a queue and of an order.
+//! shown of one account and of all, of a queue and of an order.
 #![tactic(auto)]
 
 mod account;

@@ -5,7 +5,7 @@ ghost use Rattle.rtgs_book.specs.declared.Book.{Book};
 ghost use Rattle.rtgs_book.specs.declared.Refusal.{Refusal};
 ghost use Rattle.rtgs_book.specs.Lookup.{participant_of};
 ghost use Rattle.rtgs_desk.specs.Holding.{Holds, TellsFaults};
-ghost use Rattle.rtgs_desk.specs.Readings.{Tells, account_told, accounts_told, order_told, queue_told};
+ghost use Rattle.rtgs_desk.specs.Readings.{Tells, account_answer, accounts_answer, order_answer, queue_answer};
 ghost use Rattle.rtgs_http_bodies.specs.Readings.{order_data, queue_data};
 ghost use Rattle.rtgs_desk_texts.specs.Accounts.{account_data, accounts_data};
 ghost use Rattle.rtgs_desk_texts.specs.Readings.{ReadingFails, json_line, text_wanted};
@@ -31,7 +31,7 @@ pub fn text_of<K: Keeper>(
     desk: &mut Desk<K>,
     reading: &Reading,
 ) -> Result<Vec<u8>, Refusal>
-    ensures told { K.is_honest desk.new.keeper → (book : Book) → Holds K.Keeper desk.old book
+    ensures answered { K.is_honest desk.new.keeper → (book : Book) → Holds K.Keeper desk.old book
         → Tells (λ text. text.items) (text_wanted book reading.now) result
         ⊎ ReadingFails K.Keeper book reading.now desk.new result }
     ensures faults { TellsFaults K.Keeper desk.old desk.new result }
@@ -50,15 +50,15 @@ pub fn text_of<K: Keeper>(
     }
 }
 
-// What is told of an order, as a line. The book stays as it is.
+// What is shown of an order, as a line. The book stays as it is.
 fn order_line<K: Keeper>(
     alloc: Global,
     desk: &mut Desk<K>,
     sender: &Code,
     reference: &Reference,
 ) -> Result<Vec<u8>, Refusal>
-    ensures told { K.is_honest desk.new.keeper → (book : Book) → Holds K.Keeper desk.old book
-        → Tells (λ text. text.items) (json_line order_data (order_told book sender.now reference.now)) result
+    ensures answered { K.is_honest desk.new.keeper → (book : Book) → Holds K.Keeper desk.old book
+        → Tells (λ text. text.items) (json_line order_data (order_answer book sender.now reference.now)) result
         ⊎ ((participant_of book sender.now ≢ None)
         × ((result ≡ Err Refusal.OutOfMemory) ⊎ IsLost K.Keeper desk.new result)) }
     ensures faults { TellsFaults K.Keeper desk.old desk.new result }
@@ -71,10 +71,10 @@ fn order_line<K: Keeper>(
     Ok(ended(order_text(alloc, &order)?)?)
 }
 
-// What is told of an account, as a line.
+// What is shown of an account, as a line.
 fn account_line<K: Keeper>(alloc: Global, desk: &Desk<K>, code: &Code) -> Result<Vec<u8>, Refusal>
-    ensures told { (book : Book) → Holds K.Keeper desk.now book
-        → Tells (λ text. text.items) (json_line account_data (account_told book code.now)) result }
+    ensures answered { (book : Book) → Holds K.Keeper desk.now book
+        → Tells (λ text. text.items) (json_line account_data (account_answer book code.now)) result }
     ensures failed { K.has_failed desk.now.keeper ≡ true → result ≡ Err Refusal.Failed }
     ensures only_failed { result ≡ Err Refusal.Failed → K.has_failed desk.now.keeper ≡ true }
     ensures no_fault { result ≢ Err Refusal.StoreFault }
@@ -85,10 +85,10 @@ fn account_line<K: Keeper>(alloc: Global, desk: &Desk<K>, code: &Code) -> Result
     Ok(ended(account_text(alloc, &account)?)?)
 }
 
-// What is told of all accounts, as a line.
+// What is shown of all accounts, as a line.
 fn accounts_line<K: Keeper>(alloc: Global, desk: &Desk<K>) -> Result<Vec<u8>, Refusal>
-    ensures told { (book : Book) → Holds K.Keeper desk.now book
-        → Tells (λ text. text.items) (json_line (accounts_data book.day) (accounts_told book)) result }
+    ensures answered { (book : Book) → Holds K.Keeper desk.now book
+        → Tells (λ text. text.items) (json_line (accounts_data book.day) (accounts_answer book)) result }
     ensures failed { K.has_failed desk.now.keeper ≡ true → result ≡ Err Refusal.Failed }
     ensures only_failed { result ≡ Err Refusal.Failed → K.has_failed desk.now.keeper ≡ true }
     ensures no_fault { result ≢ Err Refusal.StoreFault }
@@ -100,10 +100,10 @@ fn accounts_line<K: Keeper>(alloc: Global, desk: &Desk<K>) -> Result<Vec<u8>, Re
     Ok(ended(accounts_text(alloc, day, &accounts)?)?)
 }
 
-// What is told of a queue, as a line.
+// What is shown of a queue, as a line.
 fn queue_line<K: Keeper>(alloc: Global, desk: &Desk<K>, code: &Code) -> Result<Vec<u8>, Refusal>
-    ensures told { (book : Book) → Holds K.Keeper desk.now book
-        → Tells (λ text. text.items) (json_line queue_data (queue_told book code.now)) result }
+    ensures answered { (book : Book) → Holds K.Keeper desk.now book
+        → Tells (λ text. text.items) (json_line queue_data (queue_answer book code.now)) result }
     ensures failed { K.has_failed desk.now.keeper ≡ true → result ≡ Err Refusal.Failed }
     ensures only_failed { result ≡ Err Refusal.Failed → K.has_failed desk.now.keeper ≡ true }
     ensures no_fault { result ≢ Err Refusal.StoreFault }
@@ -128,7 +128,7 @@ pub fn statement_text<K: Keeper>(
     code: &Code,
     date: BusinessDate,
 ) -> Result<Vec<u8>, Refusal>
-    ensures told { K.is_honest desk.new.keeper → (book : Book) → Holds K.Keeper desk.old book
+    ensures answered { K.is_honest desk.new.keeper → (book : Book) → Holds K.Keeper desk.old book
         → Tells (λ text. text.items) (statement_wanted book code.now date) result
         ⊎ ((participant_of book code.now ≢ None) × IsLost K.Keeper desk.new result) }
     ensures faults { TellsFaults K.Keeper desk.old desk.new result }
@@ -147,7 +147,7 @@ pub fn report_text<K: Keeper>(
     desk: &mut Desk<K>,
     date: BusinessDate,
 ) -> Result<Vec<u8>, Refusal>
-    ensures told { K.is_honest desk.new.keeper → (book : Book) → Holds K.Keeper desk.old book
+    ensures answered { K.is_honest desk.new.keeper → (book : Book) → Holds K.Keeper desk.old book
         → Tells (λ text. text.items) (report_wanted book date) result ⊎ IsLost K.Keeper desk.new result }
     ensures faults { TellsFaults K.Keeper desk.old desk.new result }
     ensures leaves { LeavesBook K.Keeper desk.old desk.new }

@@ -19,7 +19,7 @@ use Rattle.rtgs_book.specs.Choice.{Choice, is_chosen, chosen, balance_after, IsG
 use Rattle.rtgs_book.specs.Settle.{settle, mark_of}
 use Rattle.rtgs_book.specs.Commands.{order, takes, settles_at_once, resolve, set_credit, post, withdraw, let_in, open_day, cut_off, close_day, with_credit, with_state, overdrawn}
 use Rattle.rtgs_book.specs.Procedure.{everything, taken_back, Reaches, All, Without_newest}
-use Rattle.rtgs_examples.proofs.Plainly.{plainly}
+use Rattle.rtgs_examples.proofs.WholeRuns.{as_whole_run}
 use Rattle.rtgs_examples.specs.Examples.{alfa, beta, gama, zeta, monday, start, unopened, pays, Comes, ComesFrom}
 
 -- All that the examples compute with, named once: a proof that names this one unfolds them all.
@@ -80,7 +80,7 @@ pub ring_comes : FindsGreatest → Comes ring_commands ring_replies
 unfolding computed
 ring_comes law = (
   ring_5,
-  plainly start ring_5 ring_commands ring_replies
+  as_whole_run start ring_5 ring_commands ring_replies
       (ring_1, refl, (ring_2, refl, (ring_3, refl, (ring_4, (ring_4_choice, ring_4_greatest law, refl), (ring_5, (ring_5_choice, ring_5_greatest law, refl), refl))))) refl,
   refl,
 )
@@ -155,7 +155,7 @@ pub deadlock_comes : FindsGreatest → Comes deadlock_commands deadlock_replies
 unfolding computed
 deadlock_comes law = (
   deadlock_10,
-  plainly start deadlock_10 deadlock_commands deadlock_replies
+  as_whole_run start deadlock_10 deadlock_commands deadlock_replies
       (deadlock_1, refl, (deadlock_2, refl, (deadlock_3, (deadlock_3_choice, deadlock_3_greatest law, refl), (deadlock_4, refl, (deadlock_5, (deadlock_5_choice, deadlock_5_greatest law, refl), (deadlock_6, (deadlock_6_choice, deadlock_6_greatest law, refl), (deadlock_7, refl, (deadlock_8, refl, (deadlock_9, refl, (deadlock_10, refl, refl)))))))))) refl,
   refl,
 )
@@ -195,7 +195,7 @@ pub partial_comes : FindsGreatest → Comes partial_commands partial_replies
 unfolding computed
 partial_comes law = (
   partial_4,
-  plainly start partial_4 partial_commands partial_replies
+  as_whole_run start partial_4 partial_commands partial_replies
       (partial_1, refl, (partial_2, refl, (partial_3, refl, (partial_4, (partial_4_choice, partial_4_greatest law, refl), refl)))) refl,
   refl,
 )
@@ -246,7 +246,7 @@ pub cascade_comes : FindsGreatest → Comes cascade_commands cascade_replies
 unfolding computed
 cascade_comes law = (
   cascade_7,
-  plainly start cascade_7 cascade_commands cascade_replies
+  as_whole_run start cascade_7 cascade_commands cascade_replies
       (cascade_1, refl, (cascade_2, refl, (cascade_3, refl, (cascade_4, refl, (cascade_5, refl, (cascade_6, refl, (cascade_7, (cascade_7_choice, cascade_7_greatest law, refl), refl))))))) refl,
   refl,
 )
@@ -290,7 +290,7 @@ pub boundary_of_credit_comes : Comes boundary_of_credit_commands boundary_of_cre
 unfolding computed
 boundary_of_credit_comes = (
   boundary_of_credit_7,
-  plainly start boundary_of_credit_7 boundary_of_credit_commands boundary_of_credit_replies
+  as_whole_run start boundary_of_credit_7 boundary_of_credit_commands boundary_of_credit_replies
       (boundary_of_credit_1, refl, (boundary_of_credit_2, refl, (boundary_of_credit_3, refl, (boundary_of_credit_4, refl, (boundary_of_credit_5, refl, (boundary_of_credit_6, refl, (boundary_of_credit_7, refl, refl))))))) refl,
   refl,
 )
@@ -330,7 +330,7 @@ pub no_bypass_comes : FindsGreatest → Comes no_bypass_commands no_bypass_repli
 unfolding computed
 no_bypass_comes law = (
   no_bypass_4,
-  plainly start no_bypass_4 no_bypass_commands no_bypass_replies
+  as_whole_run start no_bypass_4 no_bypass_commands no_bypass_replies
       (no_bypass_1, refl, (no_bypass_2, refl, (no_bypass_3, refl, (no_bypass_4, (no_bypass_4_choice, no_bypass_4_greatest law, refl), refl)))) refl,
   refl,
 )
@@ -374,7 +374,7 @@ pub finality_comes : Comes finality_commands finality_replies
 unfolding computed
 finality_comes = (
   finality_7,
-  plainly start finality_7 finality_commands finality_replies
+  as_whole_run start finality_7 finality_commands finality_replies
       (finality_1, refl, (finality_2, refl, (finality_3, refl, (finality_4, refl, (finality_5, refl, (finality_6, refl, (finality_7, refl, refl))))))) refl,
   refl,
 )
@@ -404,7 +404,7 @@ pub largest_posting_comes : Comes largest_posting_commands largest_posting_repli
 unfolding computed
 largest_posting_comes = (
   largest_posting_3,
-  plainly start largest_posting_3 largest_posting_commands largest_posting_replies
+  as_whole_run start largest_posting_3 largest_posting_commands largest_posting_replies
       (largest_posting_1, refl, (largest_posting_2, refl, (largest_posting_3, refl, refl))) refl,
   refl,
 )
@@ -459,7 +459,7 @@ pub cut_off_stops_orders_comes : FindsGreatest → Comes cut_off_stops_orders_co
 unfolding computed
 cut_off_stops_orders_comes law = (
   cut_off_stops_orders_8,
-  plainly start cut_off_stops_orders_8 cut_off_stops_orders_commands cut_off_stops_orders_replies
+  as_whole_run start cut_off_stops_orders_8 cut_off_stops_orders_commands cut_off_stops_orders_replies
       (cut_off_stops_orders_1, refl, (cut_off_stops_orders_2, refl, (cut_off_stops_orders_3, refl, (cut_off_stops_orders_4, refl, (cut_off_stops_orders_5, refl, (cut_off_stops_orders_6, refl, (cut_off_stops_orders_7, refl, (cut_off_stops_orders_8, (cut_off_stops_orders_8_choice, cut_off_stops_orders_8_greatest law, refl), refl)))))))) refl,
   refl,
 )
@@ -513,7 +513,7 @@ pub close_with_gridlock_comes : FindsGreatest → Comes close_with_gridlock_comm
 unfolding computed
 close_with_gridlock_comes law = (
   close_with_gridlock_6,
-  plainly start close_with_gridlock_6 close_with_gridlock_commands close_with_gridlock_replies
+  as_whole_run start close_with_gridlock_6 close_with_gridlock_commands close_with_gridlock_replies
       (close_with_gridlock_1, refl, (close_with_gridlock_2, refl, (close_with_gridlock_3, refl, (close_with_gridlock_4, (close_with_gridlock_4_choice, close_with_gridlock_4_greatest law, refl), (close_with_gridlock_5, refl, (close_with_gridlock_6, (close_with_gridlock_6_choice, close_with_gridlock_6_greatest law, refl), refl)))))) refl,
   refl,
 )
@@ -557,7 +557,7 @@ pub close_with_overdraft_comes : FindsGreatest → Comes close_with_overdraft_co
 unfolding computed
 close_with_overdraft_comes law = (
   close_with_overdraft_5,
-  plainly start close_with_overdraft_5 close_with_overdraft_commands close_with_overdraft_replies
+  as_whole_run start close_with_overdraft_5 close_with_overdraft_commands close_with_overdraft_replies
       (close_with_overdraft_1, refl, (close_with_overdraft_2, refl, (close_with_overdraft_3, refl, (close_with_overdraft_4, refl, (close_with_overdraft_5, (close_with_overdraft_5_choice, close_with_overdraft_5_greatest law, refl), refl))))) refl,
   refl,
 )
@@ -614,7 +614,7 @@ pub first_day_comes : FindsGreatest → ComesFrom unopened first_day_commands fi
 unfolding computed
 first_day_comes law = (
   first_day_7,
-  plainly unopened first_day_7 first_day_commands first_day_replies
+  as_whole_run unopened first_day_7 first_day_commands first_day_replies
       (first_day_1, (first_day_1_choice, first_day_1_greatest law, refl), (first_day_2, (first_day_2_choice, first_day_2_greatest law, refl), (first_day_3, refl, (first_day_4, refl, (first_day_5, refl, (first_day_6, refl, (first_day_7, refl, refl))))))) refl,
   refl,
 )

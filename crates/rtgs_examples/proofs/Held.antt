@@ -13,7 +13,7 @@ use Rattle.rtgs_book.specs.Commands.{order, resolve, post, withdraw, open_day, c
 use Rattle.rtgs_book.specs.Procedure.{everything, taken_back, All, Without_newest}
 use Rattle.rtgs_examples.specs.Examples.{alfa, beta, gama, zeta, monday, tuesday, wednesday, thursday, saturday}
 use Rattle.rtgs_examples.specs.Examples.{start, pays, pays_on, Comes, LeavesQueue, LeavesDates}
-use Rattle.rtgs_examples.proofs.Plainly.{plainly}
+use Rattle.rtgs_examples.proofs.WholeRuns.{as_whole_run}
 use Rattle.rtgs_examples.proofs.Computed.{computed, FindsGreatest}
 
 -- ---- due order
@@ -107,7 +107,7 @@ pub due_order_comes : FindsGreatest → Comes due_order_commands due_order_repli
 unfolding computed
 due_order_comes law = (
   due_14,
-  plainly start due_14 due_order_commands due_order_replies (
+  as_whole_run start due_14 due_order_commands due_order_replies (
     due_1,
     refl,
     (
@@ -179,7 +179,7 @@ pub held_order_moves_nothing_comes : Comes held_order_moves_nothing_commands hel
 unfolding computed
 held_order_moves_nothing_comes = (
   due_3,
-  plainly start due_3 held_order_moves_nothing_commands held_order_moves_nothing_replies
+  as_whole_run start due_3 held_order_moves_nothing_commands held_order_moves_nothing_replies
       (due_1, refl, (due_2, refl, (due_3, refl, refl))) refl,
   refl,
 )
@@ -205,7 +205,7 @@ pub due_order_enters_its_queue_comes : FindsGreatest
 unfolding computed
 due_order_enters_its_queue_comes law = (
   due_10,
-  plainly start due_10 due_order_enters_its_queue_commands due_order_enters_its_queue_replies (
+  as_whole_run start due_10 due_order_enters_its_queue_commands due_order_enters_its_queue_replies (
     due_1,
     refl,
     (
@@ -294,7 +294,7 @@ pub later_order_stays_held_comes : FindsGreatest
 unfolding computed
 later_order_stays_held_comes law = (
   late_8,
-  plainly start late_8 later_order_stays_held_commands later_order_stays_held_replies (
+  as_whole_run start late_8 later_order_stays_held_commands later_order_stays_held_replies (
     late_1,
     refl,
     (
@@ -318,25 +318,25 @@ later_order_stays_held_comes law = (
   refl,
 )
 
--- ---- entered order bears the date
+-- ---- entered order has the date
 
-abbrev entered_order_bears_the_date_commands : List Command
-entered_order_bears_the_date_commands =
+abbrev entered_order_has_the_date_commands : List Command
+entered_order_has_the_date_commands =
     pays_on wednesday alfa beta 10 (codes "A-1") ∷ pays_on thursday alfa beta 20 (codes "A-2")
     ∷ pays_on tuesday alfa gama 30 (codes "A-3") ∷ CutOff monday ∷ CloseDay monday ∷ OpenDay wednesday false ∷ []
 
-abbrev entered_order_bears_the_date_replies : List OwnReply
-entered_order_bears_the_date_replies =
+abbrev entered_order_has_the_date_replies : List OwnReply
+entered_order_has_the_date_replies =
     Ok (answer.Held 1 wednesday) ∷ Ok (answer.Held 2 thursday) ∷ Ok (answer.Held 3 tuesday) ∷ Ok answer.CutOffDone
     ∷ Ok (answer.Closed 0) ∷ Ok answer.Opened ∷ []
 
-pub entered_order_bears_the_date_comes : FindsGreatest
-    → LeavesDates entered_order_bears_the_date_commands entered_order_bears_the_date_replies
+pub entered_order_has_the_date_comes : FindsGreatest
+    → LeavesDates entered_order_has_the_date_commands entered_order_has_the_date_replies
     (wednesday ∷ thursday ∷ wednesday ∷ [])
 unfolding computed
-entered_order_bears_the_date_comes law = (
+entered_order_has_the_date_comes law = (
   late_6,
-  plainly start late_6 entered_order_bears_the_date_commands entered_order_bears_the_date_replies (
+  as_whole_run start late_6 entered_order_has_the_date_commands entered_order_has_the_date_replies (
     late_1,
     refl,
     (
@@ -400,7 +400,7 @@ pub due_date_is_content_comes : Comes due_date_is_content_commands due_date_is_c
 unfolding computed
 due_date_is_content_comes = (
   content_7,
-  plainly start content_7 due_date_is_content_commands due_date_is_content_replies (
+  as_whole_run start content_7 due_date_is_content_commands due_date_is_content_replies (
     content_1,
     refl,
     (
@@ -461,7 +461,7 @@ pub due_date_is_a_later_weekday_comes : Comes due_date_is_a_later_weekday_comman
 unfolding computed
 due_date_is_a_later_weekday_comes = (
   weekday_5,
-  plainly start weekday_5 due_date_is_a_later_weekday_commands due_date_is_a_later_weekday_replies
+  as_whole_run start weekday_5 due_date_is_a_later_weekday_commands due_date_is_a_later_weekday_replies
       (weekday_1, refl, (weekday_2, refl, (weekday_3, refl, (weekday_4, refl, (weekday_5, refl, refl))))) refl,
   refl,
 )
@@ -502,7 +502,7 @@ pub due_date_is_judged_last_comes : Comes due_date_is_judged_last_commands due_d
 unfolding computed
 due_date_is_judged_last_comes = (
   judged_6,
-  plainly start judged_6 due_date_is_judged_last_commands due_date_is_judged_last_replies
+  as_whole_run start judged_6 due_date_is_judged_last_commands due_date_is_judged_last_replies
       (judged_1, refl, (judged_2, refl, (judged_3, refl, (judged_4, refl, (judged_5, refl, (judged_6, refl, refl))))))
       refl,
   refl,
@@ -568,7 +568,7 @@ pub held_orders_are_withdrawn_comes : FindsGreatest
 unfolding computed
 held_orders_are_withdrawn_comes law = (
   withdrawn_10,
-  plainly start withdrawn_10 held_orders_are_withdrawn_commands held_orders_are_withdrawn_replies (
+  as_whole_run start withdrawn_10 held_orders_are_withdrawn_commands held_orders_are_withdrawn_replies (
     withdrawn_1,
     refl,
     (
@@ -649,7 +649,7 @@ pub close_leaves_held_orders_comes : FindsGreatest
 unfolding computed
 close_leaves_held_orders_comes law = (
   close_6,
-  plainly start close_6 close_leaves_held_orders_commands close_leaves_held_orders_replies (
+  as_whole_run start close_6 close_leaves_held_orders_commands close_leaves_held_orders_replies (
     close_1,
     refl,
     (
@@ -731,7 +731,7 @@ pub due_order_waits_to_be_resolved_comes : FindsGreatest
 unfolding computed
 due_order_waits_to_be_resolved_comes law = (
   idle_8,
-  plainly start idle_8 due_order_waits_to_be_resolved_commands due_order_waits_to_be_resolved_replies (
+  as_whole_run start idle_8 due_order_waits_to_be_resolved_commands due_order_waits_to_be_resolved_replies (
     idle_1,
     refl,
     (

@@ -1,4 +1,4 @@
 pub mod Automatic
 pub mod Computed
 pub mod Held
-pub mod Plainly
+pub mod WholeRuns

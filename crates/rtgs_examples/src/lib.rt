@@ -62,8 +62,8 @@ pub fn cascade()
     procedure_finds_the_greatest();
 }
 
-/// Credit can be used to its limit, and the limit is not lowered below what is used. An order that comes again is told
-/// its number and state, and its reference serves for no other.
+/// Credit can be used to its limit, and the limit is not lowered below what is used. An order that comes again is
+/// answered its number and state, and its reference serves for no other.
 pub fn boundary_of_credit()
     ensures { Comes
         (Command.SetCredit alfa 100 ∷ pays alfa beta 100 (codes "A-1") ∷ pays alfa beta 1 (codes "A-2")
@@ -216,8 +216,8 @@ pub fn later_order_stays_held()
     procedure_finds_the_greatest();
 }
 
-/// An order that enters its queue bears the date of that day, and one that stays held its due date.
-pub fn entered_order_bears_the_date()
+/// An order that enters its queue has the date of that day, and one that stays held its due date.
+pub fn entered_order_has_the_date()
     ensures { LeavesDates
         (pays_on wednesday alfa beta 10 (codes "A-1") ∷ pays_on thursday alfa beta 20 (codes "A-2")
         ∷ pays_on tuesday alfa gama 30 (codes "A-3") ∷ Command.CutOff monday ∷ Command.CloseDay monday

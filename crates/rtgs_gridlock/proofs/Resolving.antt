@@ -6,7 +6,7 @@ use Rattle.std.proofs.lemmas.Int.{ints}
 use Rattle.std.proofs.lemmas.Bool.{cases_eq, cond-true, cond-false, eq-eqb, ne_eqb, false≢true}
 use Rattle.rtgs_gridlock.specs.declared.queues.Payment.{Payment}
 use Rattle.rtgs_gridlock.specs.declared.positions.Position.{Position}
-use Rattle.rtgs_gridlock.specs.declared.standings.Standing.{Standing}
+use Rattle.rtgs_gridlock.specs.declared.standings.Funding.{Funding}
 use Rattle.rtgs_gridlock.specs.declared.workspace.Workspace.{Workspace}
 use Rattle.rtgs_gridlock.specs.Choices.{sum_below, amount_to, position_of, queue_of, payment_count, IsFeasible}
 use Rattle.rtgs_gridlock.specs.Choices.{IsGreatest, IsWithin, AreInRange}
@@ -53,7 +53,7 @@ same_standings : (positions : List Position) (queues : List (List Payment)) (old
     → AreStandings positions queues (choice_of new) new.standings.list
 same_standings positions queues old new d e are =
     subst (λ (x : Vec ℕ Global). AreStandings positions queues (slice_index x.items) new.standings.list) (sym d)
-    (subst (λ (y : List Standing). AreStandings positions queues (choice_of old) y) (sym e) are)
+    (subst (λ (y : List Funding). AreStandings positions queues (choice_of old) y) (sym e) are)
 
 -- with all payments chosen and all participants on the list
 pub IsResolving-filled : (positions : List Position) (queues : List (List Payment)) (old filled listed : Workspace)
@@ -133,7 +133,7 @@ IsTesting-tested positions queues s before taken tested is same take test =
 
     rest : (p : ℕ) → p < length queues → (IsWaiting tested p → ⊥) → (p ≡ s → ⊥) → HasEnough tested.standings.list p
     rest p b off ne =
-        subst (λ (xs : List Standing). HasEnough xs p) (sym (test.standings ∙ same.standings))
+        subst (λ (xs : List Funding). HasEnough xs p) (sym (test.standings ∙ same.standings))
         (is.tested p b (λ on. off (on_of p ∙ (taken_off s before taken take p ne).1 on)))
 
 -- a participant that was tested and is short: its newest chosen payment is taken back
@@ -164,11 +164,11 @@ IsResolving-taken positions queues s tested back after is short taken same sende
 
     funds : (p : ℕ) → funds_of after.standings.list p + amount_to p (newest queues (choice_of tested) s)
         ≡ funds_of tested.standings.list p
-    funds p = omega (arith, taken.funds p, ap (λ (xs : List Standing). funds_of xs p) same.standings)
+    funds p = omega (arith, taken.funds p, ap (λ (xs : List Funding). funds_of xs p) same.standings)
 
     owed : (p : ℕ) → owed_of after.standings.list p + cond (eqb p s) (newest queues (choice_of tested) s).amount 0
         ≡ owed_of tested.standings.list p
-    owed p = omega (arith, taken.owed p, ap (λ (xs : List Standing). owed_of xs p) same.standings)
+    owed p = omega (arith, taken.owed p, ap (λ (xs : List Funding). owed_of xs p) same.standings)
 
     within : IsWithin queues (choice_of after)
     within p b =
@@ -259,7 +259,7 @@ less_one choice s t = cond (eqb t s) (choice t - 1) (choice t)
 
 -- the newest chosen payment is part of what its sender owes, and of what its receiver has
 newest_is_within : (positions : List Position) (queues : List (List Payment)) (choice : ℕ → ℕ)
-    (standings : List Standing) (s : ℕ) → s < length queues → 0 < choice s → choice s ≤ length (queue_of queues s)
+    (standings : List Funding) (s : ℕ) → s < length queues → 0 < choice s → choice s ≤ length (queue_of queues s)
     → (newest queues choice s).receiver < length queues → (position_of positions
     (newest queues choice s).receiver).floor ≤ℤ (position_of positions (newest queues choice s).receiver).balance
     → AreStandings positions queues choice standings → ((newest queues choice s).amount ≤ owed_of standings s)

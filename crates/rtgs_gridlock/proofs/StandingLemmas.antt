@@ -10,13 +10,13 @@ use Rattle.rtgs_gridlock.specs.declared.positions.Position.{Position}
 use Rattle.rtgs_gridlock.specs.Choices.{amount_to, position_of, queue_of, sent, received, IsCovered, IsGreatest}
 use Rattle.rtgs_gridlock.specs.Standings.{funds_of, owed_of, everything, AreStandings}
 use Rattle.rtgs_gridlock.specs.declared.queues.Payment.{Payment}
-use Rattle.rtgs_gridlock.specs.declared.standings.Standing.{Standing}
+use Rattle.rtgs_gridlock.specs.declared.standings.Funding.{Funding}
 use Rattle.rtgs_gridlock.proofs.Sums.{sum_below-same, sum_below_changed}
 use Rattle.rtgs_gridlock.specs.Workspaces.{newest}
 use Rattle.rtgs_gridlock.proofs.ChoiceLemmas.{sent_is, sent-same}
 
 -- headrooms, with what all payments bring, are the standings of the choice of all
-pub AreStandings-filled : (positions : List Position) (queues : List (List Payment)) (opened credited : List Standing)
+pub AreStandings-filled : (positions : List Position) (queues : List (List Payment)) (opened credited : List Funding)
     → ((p : ℕ) → p < length queues → (position_of positions p).floor +ℤ pos (funds_of opened p)
     ≡ (position_of positions p).balance) → ((p : ℕ) → p < length queues
     → owed_of opened p ≡ sum_by (λ payment. payment.amount) (queue_of queues p))
@@ -38,7 +38,7 @@ received-same queues a b p h =
     (h s c))
 
 pub AreStandings-same : (positions : List Position) (queues : List (List Payment)) (a b : ℕ → ℕ)
-    (standings : List Standing) → ((s : ℕ) → s < length queues → a s ≡ b s) → AreStandings positions queues a standings
+    (standings : List Funding) → ((s : ℕ) → s < length queues → a s ≡ b s) → AreStandings positions queues a standings
     → AreStandings positions queues b standings
 AreStandings-same positions queues a b standings h are = record {
   funds = λ p c. are.funds p c ∙ ap (λ (x : ℕ). (position_of positions p).balance +ℤ pos x)
@@ -76,7 +76,7 @@ sent_taken queues many fewer s e within =
 
 -- the standings after a payment is taken back are those of the smaller choice
 pub AreStandings-taken : (positions : List Position) (queues : List (List Payment)) (many fewer : ℕ → ℕ)
-    (old new : List Standing) (s : ℕ) → s < length queues → fewer s + 1 ≡ many s → many s ≤ length (queue_of queues s)
+    (old new : List Funding) (s : ℕ) → s < length queues → fewer s + 1 ≡ many s → many s ≤ length (queue_of queues s)
     → ((t : ℕ) → (t ≡ s → ⊥) → fewer t ≡ many t) → ((p : ℕ) → funds_of new p + amount_to p (newest queues many s)
     ≡ funds_of old p) → ((p : ℕ) → owed_of new p + cond (eqb p s) (newest queues many s).amount 0 ≡ owed_of old p)
     → AreStandings positions queues many old → AreStandings positions queues fewer new
@@ -110,13 +110,13 @@ AreStandings-taken positions queues many fewer old new s inside e within others 
 
 -- funds cover what is owed exactly where the choice leaves the participant at its floor or above
 pub IsCovered-from_standings : (positions : List Position) (queues : List (List Payment)) (choice : ℕ → ℕ)
-    (standings : List Standing) (p : ℕ) → p < length queues → AreStandings positions queues choice standings
+    (standings : List Funding) (p : ℕ) → p < length queues → AreStandings positions queues choice standings
     → owed_of standings p ≤ funds_of standings p → IsCovered positions queues choice p
 IsCovered-from_standings positions queues choice standings p b are enough =
     omega (arith, ints, are.funds p b, are.owed p b, enough)
 
 pub enough_from_IsCovered : (positions : List Position) (queues : List (List Payment)) (choice : ℕ → ℕ)
-    (standings : List Standing) (p : ℕ) → p < length queues → AreStandings positions queues choice standings
+    (standings : List Funding) (p : ℕ) → p < length queues → AreStandings positions queues choice standings
     → IsCovered positions queues choice p → owed_of standings p ≤ funds_of standings p
 enough_from_IsCovered positions queues choice standings p b are covered =
     omega (arith, ints, are.funds p b, are.owed p b, covered)

@@ -97,7 +97,6 @@ impl Queues {
         Some(count)
     }
 
-    /// A participant's queue.
     pub(crate) fn queue(&self, index: usize) -> &[Payment]
         requires { index < length self.now }
         ensures { result.now ≡ queue_of self.now index }
@@ -105,7 +104,6 @@ impl Queues {
         &self.lists[index]
     }
 
-    /// A queued payment.
     pub(crate) fn payment(&self, index: usize, place: usize) -> Payment
         requires index { index < length self.now }
         requires place { place < length (queue_of self.now index) }

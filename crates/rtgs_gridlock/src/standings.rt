@@ -13,7 +13,7 @@ use std::marker::Model;
 /// What a participant may spend by the present choice, its balance above its floor with what it
 /// receives, and what it sends, both in cents. Its position is the difference.
 #[derive(Clone, Copy)]
-pub struct Standing {
+pub struct Funding {
     funds: u128,
     owed: u128,
 }
@@ -23,7 +23,7 @@ pub struct Standing {
 /// `reserve` begins at 0, and a count of 2^64 - 1 stays.
 #[derive(Drop)]
 pub struct Standings {
-    list: Vec<Standing>,
+    list: Vec<Funding>,
     steps: u64,
 }
 
@@ -41,7 +41,7 @@ impl Standings {
         ensures room { IfOk result (λ standings. length standings.list ≡ participants) }
         ensures fresh { IfOk result (λ standings. standings.steps ≡ 0) }
     {
-        let list = vec![in alloc; Standing { funds: 0, owed: 0 }; participants]?;
+        let list = vec![in alloc; Funding { funds: 0, owed: 0 }; participants]?;
         Ok(Standings { list, steps: 0 })
     }
 
@@ -76,7 +76,7 @@ impl Standings {
         ensures steps { IsCounted self.old.steps self.new.steps }
     {
         self.steps = self.steps.saturating_add(1);
-        let Standing { funds, owed } = self.list[index];
+        let Funding { funds, owed } = self.list[index];
         owed <= funds
     }
 
@@ -102,7 +102,7 @@ impl Standings {
 }
 
 /// Each participant's standing with all payments sent and none received.
-fn open(standings: &mut [Standing], positions: &Positions, queues: &Queues)
+fn open(standings: &mut [Funding], positions: &Positions, queues: &Queues)
     requires positions { length positions.now ≡ length queues.now }
     requires floored { AreFloored positions.now }
     requires standings { length queues.now ≤ length standings.old }
@@ -115,7 +115,7 @@ fn open(standings: &mut [Standing], positions: &Positions, queues: &Queues)
     for index in 0..queues.len() {
         let funds = positions.headroom(index);
         let owed = total_of(queues.queue(index));
-        standings[index] = Standing { funds, owed };
+        standings[index] = Funding { funds, owed };
     }
 }
 
@@ -123,6 +123,7 @@ fn open(standings: &mut [Standing], positions: &Positions, queues: &Queues)
 fn total_of(payments: &[Payment]) -> u128
     ensures { result ≡ sum_by (λ payment. payment.amount) payments.now }
 {
+    // A slice has fewer than 2^64 elements: the sum below fits for that reason, and only this call states it.
     let _count = payments.len();
     let mut total = 0u128;
     for payment in payments {
@@ -132,7 +133,7 @@ fn total_of(payments: &[Payment]) -> u128
 }
 
 /// Adds to each participant's funds what all queued payments bring to it.
-fn credit_all(standings: &mut [Standing], queues: &Queues)
+fn credit_all(standings: &mut [Funding], queues: &Queues)
     requires standings { length queues.now ≤ length standings.old }
     requires receivers { AreInRange queues.now }
     requires few { payment_count queues.now < 2 ^ 64 }
@@ -147,7 +148,7 @@ fn credit_all(standings: &mut [Standing], queues: &Queues)
 }
 
 /// Adds to each receiver's funds what the payments bring to it.
-fn credit(standings: &mut [Standing], payments: &[Payment])
+fn credit(standings: &mut [Funding], payments: &[Payment])
     requires receivers { All (λ payment. payment.receiver < length standings.old) payments.now }
     requires room { All
         (λ payment. funds_of standings.old payment.receiver + length payments.now * LARGEST_AMOUNT < 2 ^ 128)

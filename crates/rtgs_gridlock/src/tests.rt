@@ -4,15 +4,15 @@ mod books;
 mod plain;
 
 use crate::{OutOfMemory, Payment, Position, Workspace, greatest};
-use books::{Book, SMALL_BOOKS, chain, mixed, ring, small};
+use books::{ResolverInput, SMALL_BOOKS, chain, mixed, ring, small};
 use plain::greatest_plainly;
 use std::alloc::Global;
 use std::process::Abort;
 use std::test::Fail;
 
 /// A book of so many participants, with the balance, floor and queue of each.
-fn book(alloc: Global, rows: &[(i64, i64, &[(usize, u64)])]) -> Result<Book, Fail> {
-    let mut book = Book::new(alloc);
+fn book(alloc: Global, rows: &[(i64, i64, &[(usize, u64)])]) -> Result<ResolverInput, Fail> {
+    let mut book = ResolverInput::new(alloc);
     for (balance, floor, queue) in rows {
         let mut payments = Vec::new(alloc);
         for (receiver, amount) in *queue {
@@ -31,8 +31,8 @@ fn book(alloc: Global, rows: &[(i64, i64, &[(usize, u64)])]) -> Result<Book, Fai
 }
 
 /// The lengths of a book's greatest choice, found in at most n + 3q steps.
-fn lengths(rt: &impl Abort, alloc: Global, book: &Book) -> Result<Vec<usize>, Fail> {
-    let Book { positions, queues } = book;
+fn lengths(rt: &impl Abort, alloc: Global, book: &ResolverInput) -> Result<Vec<usize>, Fail> {
+    let ResolverInput { positions, queues } = book;
     let participants = queues.len();
     let payments = queues.payment_count().ok_or("too many payments")?;
     let mut workspace = Workspace::reserve(alloc, participants, payments)?;
@@ -47,7 +47,7 @@ fn lengths(rt: &impl Abort, alloc: Global, book: &Book) -> Result<Vec<usize>, Fa
 }
 
 /// Compares the resolver with the plain procedure, and counts the payments that settle.
-fn compared(rt: &impl Abort, alloc: Global, book: &Book) -> Result<usize, Fail> {
+fn compared(rt: &impl Abort, alloc: Global, book: &ResolverInput) -> Result<usize, Fail> {
     let found = lengths(rt, alloc, book)?;
     let plain = greatest_plainly(alloc, &book.positions, &book.queues)?;
     assert_eq!(rt; found, plain);
@@ -66,7 +66,7 @@ fn want_of_memory_is_printed(rt: HostRuntime) -> Result<(), Fail> {
 
 #[test]
 fn no_participants(rt: HostRuntime) -> Result<(), Fail> {
-    let book = Book::new(rt.alloc());
+    let book = ResolverInput::new(rt.alloc());
     assert!(rt; book.positions.is_empty());
     assert!(rt; book.queues.is_empty());
     assert!(rt; lengths(&rt, rt.alloc(), &book)?.is_empty());

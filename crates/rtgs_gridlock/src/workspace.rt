@@ -81,6 +81,7 @@ impl Workspace {
         ensures filled { IsFilled positions.now queues.now self.old self.new }
         ensures few { payment_count queues.now < 2 ^ 64 }
     {
+        // The type of the field states that there are fewer than 2^64 payments, which the clause `few` needs.
         let _payments = self.payments;
         self.participants = queues.len();
         choose_all(&mut self.lengths, queues);

@@ -14,7 +14,7 @@ use Rattle.rtgs_http_bodies.specs.Refusals.{refused_message}
 use Rattle.rtgs_http_input.specs.Input.{Requests}
 use Rattle.rtgs_http_input.specs.Known.{KnowsOf}
 use Rattle.rtgs_http_replies.specs.Messages.{Message}
-use Rattle.rtgs_http_requests.specs.Access.{BearsKey, MayAsk}
+use Rattle.rtgs_http_requests.specs.Access.{CarriesKey, MayAsk}
 use Rattle.rtgs_http_requests.specs.Callers.{CodeOf}
 use Rattle.rtgs_http_requests.specs.Exchange.{AsksFor}
 use Rattle.rtgs_http_requests.specs.Plans.{PlanLooksUp}
@@ -22,9 +22,9 @@ use Rattle.rtgs_http_requests.specs.declared.asked.Asked.{Asked}
 use Rattle.rtgs_http_requests.specs.declared.asked.Asked.TheVariants.{Submit, Batch, Read}
 use Rattle.rtgs_http_requests.specs.declared.http_fault.HttpFault.{HttpFault}
 use Rattle.rtgs_desk_texts.specs.Written.{StillHolds}
-use Rattle.rtgs_http_banks.specs.Dealings.{ComesTo, Makes, Works, WorksFor, given}
+use Rattle.rtgs_http_banks.specs.Handling.{ComesTo, Makes, Works, WorksFor, given}
 use Rattle.rtgs_http_banks.specs.Exchange.{Exchanges}
-use Rattle.rtgs_http_banks.specs.Sayings.{IsSaid, fault_message}
+use Rattle.rtgs_http_banks.specs.ReplyMessages.{IsSaid, fault_message}
 
 -- on a desk that has failed anybody may have any key
 nobody : {K : Type 0} (g : Ghosts K) (desk : Seen K) (code_of : CodeOf) → g.has_failed desk.keeper ≡ true
@@ -99,7 +99,7 @@ pub asked_exchange : {K : Type 0} (g : Ghosts K) (operator input : List ℕ) (ol
     (sent : Message)
     → ((operator : List ℕ) (code_of : CodeOf) (input : List ℕ) (asked : Asked)
     → AsksFor operator code_of input (Ok asked)
-    → (digest : List ℕ) × BearsKey input digest × MayAsk operator code_of digest asked)
+    → (digest : List ℕ) × CarriesKey input digest × MayAsk operator code_of digest asked)
     → ((book : Book) × HasParticipants old book × IsSound book)
     → ((book : Book) → Holds g old book → HasParticipants old book)
     → ((book : Book) → Holds g old book → IsCalm book) → Requests (KnowsOf g old) operator input (Ok asked)
@@ -107,7 +107,7 @@ pub asked_exchange : {K : Type 0} (g : Ghosts K) (operator input : List ℕ) (ol
     → (g.has_failed old.keeper ≡ true → (new ≡ old) × IsSaid (refused_message Failed) sent)
     → Exchanges g operator old input new sent
 asked_exchange g operator input old new asked sent own memory has calm asks comes failed = record {
-  deals = λ honest book held.
+  handles = λ honest book held.
       let a = asks.1 (code_under book) (of_book g old book (has book held)) in
       record {
         answer = Ok asked;
@@ -133,7 +133,7 @@ pub fault_exchange : {K : Type 0} (g : Ghosts K) (operator input : List ℕ) (de
     → ((book : Book) → Holds g desk book → g.has_failed desk.keeper ≡ false) → IsSaid (fault_message fault) sent
     → Exchanges g operator desk input desk sent
 fault_exchange g operator input desk fault sent asks has calm stands work said = record {
-  deals = λ honest book held. record {
+  handles = λ honest book held. record {
     answer = Err fault;
     asks = asks (code_under book) (of_book g desk book (has book held));
     allowed = tt;
@@ -150,7 +150,7 @@ pub failed_exchange : {K : Type 0} (g : Ghosts K) (operator input : List ℕ) (d
     → g.has_failed desk.keeper ≡ true → IsSaid (refused_message Failed) sent
     → Exchanges g operator desk input desk sent
 failed_exchange g operator input desk sent work looks failed said = record {
-  deals = λ honest book held. let works = work book held in let no : ⊥ = cc in absurd no;
+  handles = λ honest book held. let works = work book held in let no : ⊥ = cc in absurd no;
   changes = inl refl;
   failed = λ f. (refl, inl (inl looks, said));
 }

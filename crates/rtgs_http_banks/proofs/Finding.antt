@@ -11,7 +11,7 @@ use Rattle.rtgs_desk.specs.Seen.{Seen}
 use Rattle.rtgs_http_bodies.specs.Refusals.{refused_message}
 use Rattle.rtgs_http_replies.specs.Messages.{Message}
 use Rattle.rtgs_desk_texts.specs.Written.{StillHolds}
-use Rattle.rtgs_http_banks.specs.Sayings.{IsSaid, told_message, order_message}
+use Rattle.rtgs_http_banks.specs.ReplyMessages.{IsSaid, result_message, order_message}
 
 -- a look-up does nothing to the book
 pub stood_still : {K : Type 0} (g : Ghosts K) (book : Book) (desk : Seen K) (result : Result Order Refusal)
@@ -25,17 +25,17 @@ stood_still g book desk result kept left whole fault = record {
 }
 
 -- where an order was not found for another cause than the store's
-pub refused_found : (told : Result Order Refusal) (refusal : Refusal) (sent : Message) → Finds told (Err refusal)
-    → IsSaid (refused_message refusal) sent → refusal ≢ StoreFault → IsSaid (told_message order_message told) sent
-refused_found told refusal sent (inl e) said other = subst (λ t. IsSaid (told_message order_message t) sent) e said
-refused_found told refusal sent (inr (known, inl e)) (inl h) other =
+pub refused_found : (answer : Result Order Refusal) (refusal : Refusal) (sent : Message) → Finds answer (Err refusal)
+    → IsSaid (refused_message refusal) sent → refusal ≢ StoreFault → IsSaid (result_message order_message answer) sent
+refused_found answer refusal sent (inl e) said other = subst (λ t. IsSaid (result_message order_message t) sent) e said
+refused_found answer refusal sent (inr (known, inl e)) (inl h) other =
     let same : refusal ≡ OutOfMemory = cc in inr (h ∙ ap refused_message same)
-refused_found told refusal sent (inr (known, inl e)) (inr h) other = inr h
-refused_found told refusal sent (inr (known, inr e)) said other =
+refused_found answer refusal sent (inr (known, inl e)) (inr h) other = inr h
+refused_found answer refusal sent (inr (known, inr e)) said other =
     let same : refusal ≡ StoreFault = cc in absurd (other same)
 
-pub found_said : (told : Result Order Refusal) (order : Order) (sent : Message) → Finds told (Ok order)
-    → sent ≡ order_message order → IsSaid (told_message order_message told) sent
-found_said told order sent (inl e) h = subst (λ t. IsSaid (told_message order_message t) sent) e (inl h)
-found_said told order sent (inr (known, inl e)) h = let no : ⊥ = cc in absurd no
-found_said told order sent (inr (known, inr e)) h = let no : ⊥ = cc in absurd no
+pub found_said : (answer : Result Order Refusal) (order : Order) (sent : Message) → Finds answer (Ok order)
+    → sent ≡ order_message order → IsSaid (result_message order_message answer) sent
+found_said answer order sent (inl e) h = subst (λ t. IsSaid (result_message order_message t) sent) e (inl h)
+found_said answer order sent (inr (known, inl e)) h = let no : ⊥ = cc in absurd no
+found_said answer order sent (inr (known, inr e)) h = let no : ⊥ = cc in absurd no

@@ -2,5 +2,5 @@ mod Exchanged
 mod Finding
 mod Inputs
 mod Joining
-mod Plainly
-mod Told
+mod Undetailed
+mod ReadingReplies

@@ -8,23 +8,23 @@ use Rattle.rtgs_desk.specs.Holding.{HasParticipants, Holds}
 use Rattle.rtgs_desk.specs.Seen.{Seen}
 use Rattle.rtgs_http_bodies.specs.Refusals.{refused_message}
 use Rattle.rtgs_http_replies.specs.Messages.{Message}
-use Rattle.rtgs_http_requests.specs.Access.{BearsKey, MayAsk}
+use Rattle.rtgs_http_requests.specs.Access.{CarriesKey, MayAsk}
 use Rattle.rtgs_http_requests.specs.Callers.{CodeOf}
 use Rattle.rtgs_http_requests.specs.Exchange.{AsksFor}
 use Rattle.rtgs_http_requests.specs.Plans.{PlanLooksUp}
 use Rattle.rtgs_http_requests.specs.declared.asked.Asked.{Asked}
 use Rattle.rtgs_http_requests.specs.declared.http_fault.HttpFault.{HttpFault}
-use Rattle.rtgs_http_banks.specs.Dealings.{ComesTo, WorksFor}
-use Rattle.rtgs_http_banks.specs.Sayings.{IsSaid, fault_message}
+use Rattle.rtgs_http_banks.specs.Handling.{ComesTo, WorksFor}
+use Rattle.rtgs_http_banks.specs.ReplyMessages.{IsSaid, fault_message}
 
 -- what is asked is the own of the key's participant, unless the key is the operator's
 abbrev pub IsAllowed : List ℕ → Book → List ℕ → Result Asked HttpFault → Type 0
 IsAllowed operator old input (Ok asked) =
-    (digest : List ℕ) × BearsKey input digest × MayAsk operator (code_under old) digest asked
+    (digest : List ℕ) × CarriesKey input digest × MayAsk operator (code_under old) digest asked
 IsAllowed operator old input (Err fault) = ⊤
 
 -- the request is read to its end, and what it asks of the book that the desk held is done and answered
-pub record Deals {K : Type 0} (g : Ghosts K) (operator : List ℕ) (old : Book) (input : List ℕ) (desk : Seen K)
+pub record Handles {K : Type 0} (g : Ghosts K) (operator : List ℕ) (old : Book) (input : List ℕ) (desk : Seen K)
     (sent : Message) : Type 0 where
   pub answer : Result Asked HttpFault
   pub asks : AsksFor operator (code_under old) input answer
@@ -39,7 +39,7 @@ abbrev pub NeedsBook : List ℕ → List ℕ → Type 0
 NeedsBook operator input =
     PlanLooksUp operator input ⊎ ((asked : Asked) × ((code_of : CodeOf) → AsksFor operator code_of input (Ok asked)))
 
--- A desk that had failed says so at the first step that needs the book. A fault of a step before it is told.
+-- A desk that had failed says so at the first step that needs the book. A fault of a step before it is sent.
 abbrev pub TurnsAway : List ℕ → List ℕ → Message → Type 0
 TurnsAway operator input sent =
     (NeedsBook operator input × IsSaid (refused_message Failed) sent)
@@ -55,7 +55,7 @@ IsAskedByBearer operator desk input =
 -- what an input comes to: on a desk that held a book, and on one that had failed
 pub record Exchanges {K : Type 0} (g : Ghosts K) (operator : List ℕ) (old : Seen K) (input : List ℕ) (new : Seen K)
     (sent : Message) : Type 0 where
-  pub deals : g.is_honest new.keeper → (book : Book) → Holds g old book → Deals g operator book input new sent
+  pub handles : g.is_honest new.keeper → (book : Book) → Holds g old book → Handles g operator book input new sent
   -- whatever the desk holds, it changes only for what the bearer of a key may ask
   pub changes : (new ≡ old) ⊎ IsAskedByBearer operator old input
   pub failed : g.has_failed old.keeper ≡ true → (new ≡ old) × TurnsAway operator input sent

@@ -1,4 +1,4 @@
-pub mod Dealings
+pub mod Handling
 pub mod Exchange
-pub mod Sayings
+pub mod ReplyMessages
 pub mod Serving

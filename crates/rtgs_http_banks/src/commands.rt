@@ -3,8 +3,8 @@ ghost use Rattle.std.specs.Prelude.{◌≡◌, ◌⊎◌, true, Ok, Err, IfOk, I
 ghost use Rattle.rtgs_book.specs.declared.Book.{Book};
 ghost use Rattle.rtgs_book.specs.declared.Refusal.{Refusal};
 ghost use Rattle.rtgs_desk.specs.Holding.{Holds};
-ghost use Rattle.rtgs_http_banks.specs.Dealings.{ComesTo, GivesNothing, Submits, SubmitsAll};
-ghost use Rattle.rtgs_http_banks.specs.Sayings.{IsSaid, IsSentOrLost, reply_message};
+ghost use Rattle.rtgs_http_banks.specs.Handling.{ComesTo, GivesNothing, Submits, SubmitsAll};
+ghost use Rattle.rtgs_http_banks.specs.ReplyMessages.{IsSaid, IsSentOrLost, reply_message};
 ghost use Rattle.rtgs_http_bodies.specs.Refusals.{refused_message};
 ghost use Rattle.rtgs_http_replies.specs.Kinds.{no_memory};
 ghost use Rattle.rtgs_http_replies.specs.Messages.{Message};
@@ -53,9 +53,9 @@ fn submit<K: Keeper>(alloc: Global, desk: &mut Desk<K>, command: Command) -> Rep
     tell(alloc, reply)
 }
 
-// What is told of a reply of the desk. Lack of memory for the command is told without taking any.
+// The HTTP reply of a reply of the desk. Lack of memory for the command has the fixed one, which takes none.
 fn tell(alloc: Global, reply: Result<WholeAnswer, Refusal>) -> Reply
-    ensures told { IsSentOrLost (reply_message reply) result }
+    ensures sent_or_lost { IsSentOrLost (reply_message reply) result }
     ensures refused { reply ≡ Err Refusal.OutOfMemory → result ≡ no_memory }
 {
     match reply {
@@ -66,7 +66,7 @@ fn tell(alloc: Global, reply: Result<WholeAnswer, Refusal>) -> Reply
 
 // The reply, or that the answer is lost.
 fn or_lost(made: Result<Reply, AllocError>) -> Reply
-    ensures told { (wanted : Message) → IfOk made (λ reply. reply ≡ wanted) → IsSentOrLost wanted result }
+    ensures sent_or_lost { (wanted : Message) → IfOk made (λ reply. reply ≡ wanted) → IsSentOrLost wanted result }
     ensures made { (wanted : Message) → IfOk made (λ reply. reply ≡ wanted) → IsOk made → result ≡ wanted }
 {
     match made {

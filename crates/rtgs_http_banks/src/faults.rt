@@ -1,7 +1,7 @@
 //! Replies where nothing is asked.
 ghost use Rattle.std.specs.Prelude.{◌≡◌, IfOk};
 ghost use Rattle.rtgs_book.specs.declared.Refusal.{Refusal};
-ghost use Rattle.rtgs_http_banks.specs.Sayings.{IsSaid, fault_message};
+ghost use Rattle.rtgs_http_banks.specs.ReplyMessages.{IsSaid, fault_message};
 ghost use Rattle.rtgs_http_bodies.specs.Refusals.{refused_message};
 
 use rtgs_book::Refusal;

@@ -5,7 +5,7 @@ ghost use Rattle.rtgs_book.specs.declared.command.Command.{Command};
 ghost use Rattle.rtgs_book.specs.Outcome.{Reply};
 ghost use Rattle.rtgs_desk.specs.Holding.{Holds};
 ghost use Rattle.rtgs_desk.specs.Seen.{Seen};
-ghost use Rattle.rtgs_http_banks.specs.Dealings.{Makes, Works};
+ghost use Rattle.rtgs_http_banks.specs.Handling.{Makes, Works};
 
 use crate::readings::stands;
 use rtgs_desk::Desk;
@@ -21,7 +21,7 @@ pub fn a_desk_at_rest_works<K: Keeper>(desk: &Desk<K>)
 }
 
 /// Requests join: the commands of one that left this desk working, and those of the next, are one session from the book
-/// before the first. Which they are, `Deals` says of each: those that its request asks for.
+/// before the first. Which they are, `Handles` says of each: those that its request asks for.
 pub fn requests_join<K: Keeper>(desk: &Desk<K>)
     ensures { (old : Book) (new : Seen K) (commands more : List Command) (replies again : List Reply)
         (first : Makes K.Keeper old commands replies desk.now) → K.has_failed desk.now.keeper ≡ false

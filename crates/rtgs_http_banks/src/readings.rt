@@ -1,12 +1,13 @@
 //! Readings, and what is replied to them.
 ghost use Rattle.rtgs_book.specs.declared.Book.{Book};
 ghost use Rattle.rtgs_desk.specs.Holding.{Holds};
-ghost use Rattle.rtgs_desk.specs.Readings.{account_told, accounts_told, queue_told, order_told};
+ghost use Rattle.rtgs_desk.specs.Readings.{account_answer, accounts_answer, queue_answer, order_answer};
 ghost use Rattle.rtgs_desk_texts.specs.Written.{statement_wanted, report_wanted};
 ghost use Rattle.rtgs_desk_texts.specs.Written.{StillHolds};
-ghost use Rattle.rtgs_http_banks.specs.Dealings.{Reads, IsReadOf};
-ghost use Rattle.rtgs_http_banks.specs.Sayings.{IsSaid, told_message, order_message, account_message, queue_message};
-ghost use Rattle.rtgs_http_banks.specs.Sayings.{accounts_message, text_message};
+ghost use Rattle.rtgs_http_banks.specs.Handling.{Reads, IsReadOf};
+ghost use Rattle.rtgs_http_banks.specs.ReplyMessages.{IsSaid, result_message, order_message, account_message};
+ghost use Rattle.rtgs_http_banks.specs.ReplyMessages.{queue_message};
+ghost use Rattle.rtgs_http_banks.specs.ReplyMessages.{accounts_message, text_message};
 
 use crate::faults::refused;
 use rtgs_book::Reading;
@@ -53,7 +54,7 @@ fn read_order<K: Keeper>(
 ) -> Reply
     ensures reads { K.is_honest desk.new.keeper → (book : Book) → Holds K.Keeper desk.old book
         → StillHolds K.Keeper book desk.new
-        × IsReadOf K.Keeper (told_message order_message (order_told book code.now reference.now)) desk.new result }
+        × IsReadOf K.Keeper (result_message order_message (order_answer book code.now reference.now)) desk.new result }
     ensures honest { K.is_honest desk.new.keeper → K.is_honest desk.old.keeper }
 {
     desk.holds_a_sound_book();
@@ -67,10 +68,9 @@ fn read_order<K: Keeper>(
     }
 }
 
-// The account.
 fn read_account<K: Keeper>(alloc: Global, desk: &Desk<K>, code: &Code) -> Reply
     ensures { (book : Book) → Holds K.Keeper desk.now book
-        → IsSaid (told_message account_message (account_told book code.now)) result }
+        → IsSaid (result_message account_message (account_answer book code.now)) result }
 {
     desk.holds_a_sound_book();
     queued_values_fit();
@@ -87,7 +87,7 @@ fn read_account<K: Keeper>(alloc: Global, desk: &Desk<K>, code: &Code) -> Reply
 // The accounts of all participants.
 fn read_accounts<K: Keeper>(alloc: Global, desk: &Desk<K>) -> Reply
     ensures { (book : Book) → Holds K.Keeper desk.now book
-        → IsSaid (told_message (accounts_message book.day) (accounts_told book)) result }
+        → IsSaid (result_message (accounts_message book.day) (accounts_answer book)) result }
 {
     desk.holds_a_sound_book();
     all_queued_values_fit();
@@ -105,10 +105,9 @@ fn read_accounts<K: Keeper>(alloc: Global, desk: &Desk<K>) -> Reply
     }
 }
 
-// The queue.
 fn read_queue<K: Keeper>(alloc: Global, desk: &Desk<K>, code: &Code) -> Reply
     ensures { (book : Book) → Holds K.Keeper desk.now book
-        → IsSaid (told_message queue_message (queue_told book code.now)) result }
+        → IsSaid (result_message queue_message (queue_answer book code.now)) result }
 {
     let orders = match desk.queue_of(code) {
         Ok(orders) => orders,
@@ -129,7 +128,7 @@ fn read_statement<K: Keeper>(
 ) -> Reply
     ensures reads { K.is_honest desk.new.keeper → (book : Book) → Holds K.Keeper desk.old book
         → StillHolds K.Keeper book desk.new × IsReadOf K.Keeper
-        (told_message text_message (statement_wanted book code.now date)) desk.new result }
+        (result_message text_message (statement_wanted book code.now date)) desk.new result }
     ensures honest { K.is_honest desk.new.keeper → K.is_honest desk.old.keeper }
 {
     desk.holds_a_sound_book();
@@ -143,11 +142,10 @@ fn read_statement<K: Keeper>(
     }
 }
 
-// The report of a date.
 fn read_report<K: Keeper>(alloc: Global, desk: &mut Desk<K>, date: BusinessDate) -> Reply
     ensures reads { K.is_honest desk.new.keeper → (book : Book) → Holds K.Keeper desk.old book
         → StillHolds K.Keeper book desk.new × IsReadOf K.Keeper
-        (told_message text_message (report_wanted book date)) desk.new result }
+        (result_message text_message (report_wanted book date)) desk.new result }
     ensures honest { K.is_honest desk.new.keeper → K.is_honest desk.old.keeper }
 {
     desk.holds_a_sound_book();

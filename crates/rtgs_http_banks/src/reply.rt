@@ -2,7 +2,7 @@
 ghost use Rattle.std.specs.Prelude.{◌≡◌, IfOk, OnErr, ℕ, List, true, Err};
 ghost use Rattle.rtgs_book.specs.declared.Book.{Book};
 ghost use Rattle.rtgs_desk.specs.Holding.{Holds};
-ghost use Rattle.rtgs_http_banks.specs.Dealings.{Works};
+ghost use Rattle.rtgs_http_banks.specs.Handling.{Works};
 ghost use Rattle.rtgs_http_banks.specs.Exchange.{Exchanges};
 ghost use Rattle.rtgs_http_input.specs.Input.{OfInput, Requests};
 ghost use Rattle.rtgs_http_input.specs.Known.{KnowsOf};

@@ -3,7 +3,7 @@ ghost use Rattle.std.specs.Prelude.{◌≡◌};
 ghost use Rattle.rtgs_http_input.specs.declared.ReaderFailed.{ReaderFailed};
 ghost use Rattle.rtgs_book.specs.declared.Book.{Book};
 ghost use Rattle.rtgs_desk.specs.Holding.{Holds};
-ghost use Rattle.rtgs_http_banks.specs.Dealings.{Works};
+ghost use Rattle.rtgs_http_banks.specs.Handling.{Works};
 ghost use Rattle.rtgs_http_banks.specs.Exchange.{Exchanges};
 ghost use Rattle.rtgs_http_banks.specs.Serving.{Serves};
 
@@ -16,8 +16,8 @@ use std::alloc::Global;
 use std::io::{Read, Write};
 
 /// Reads one request, does what it asks, and writes one reply (RFC 9112, sections 2 to 6). It is `reply_to`, which is
-/// lent no writer, and then the reply is sent. That a participant is told of its own rows alone, and that a request
-/// that comes again is told as a repeat, are laws of the crate `rtgs_http_laws`.
+/// lent no writer, and then the reply is sent. That a participant is shown its own rows alone, and that a request
+/// that comes again is answered as a repeat, are laws of the crate `rtgs_http_laws`.
 pub fn serve_one<R: Read, W: Write, K: Keeper>(
     alloc: Global,
     reader: &mut R,

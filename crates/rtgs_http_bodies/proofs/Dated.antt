@@ -13,9 +13,9 @@ due_on order due = record order { due = due }
 pub is_undated : (order : Order) → order.due ≡ None → order_data (undated order) ≡ order_data order
 is_undated order none = ap (λ due. order_data (due_on order due)) (sym none)
 
--- what is told of the order without its due date, and how the date comes to it
-abbrev pub IsTold : Order → Order → ℕ → Type 0
-IsTold plain order due = (members : Members) × (order_data plain ≡ object members)
+-- the value of the order without its due date, and how the date comes to it
+abbrev pub GainsDue : Order → Order → ℕ → Type 0
+GainsDue plain order due = (members : Members) × (order_data plain ≡ object members)
     × (object (put (codes "due") (string (date_text due)) members) ≡ order_data order)
 
 in_state : (state : OrderState) (order : Order) (due : ℕ) → (members : Members)
@@ -27,7 +27,7 @@ in_state state.Held order due = (_, refl, refl)
 in_state state.Withdrawn order due = (_, refl, refl)
 in_state state.Rejected order due = (_, refl, refl)
 
-pub is_dated : (order : Order) (due : ℕ) → order.due ≡ Some due → IsTold (undated order) order due
+pub is_dated : (order : Order) (due : ℕ) → order.due ≡ Some due → GainsDue (undated order) order due
 is_dated order due some =
-    let told = in_state order.state order due in
-    (told.0, told.1, told.2 ∙ ap (λ due. order_data (due_on order due)) (sym some))
+    let gained = in_state order.state order due in
+    (gained.0, gained.1, gained.2 ∙ ap (λ due. order_data (due_on order due)) (sym some))

@@ -10,8 +10,8 @@ use Rattle.rtgs_http_bodies.specs.Readings.{order_data, order_in, queue_data, qu
 
 due_has_no_float : (due : Option ℕ) (members : Members) → members_have_float members ≡ false
     → members_have_float (with_due due members) ≡ false
-due_has_no_float None told none = none
-due_has_no_float (Some due) told none = none
+due_has_no_float None members none = none
+due_has_no_float (Some due) members none = none
 
 in_state_has_no_float : (state : OrderState) (order : Order) → has_float (order_in state order) ≡ false
 in_state_has_no_float (state.Settled mark) order = due_has_no_float order.due _ refl

@@ -1,4 +1,4 @@
--- Refusals of which no more than the number and the name is told.
+-- Refusals whose value has no more than the number and the name.
 use Rattle.std.proofs.Common.{◌≡◌, ℕ, List, refl}
 use Rattle.rtgs_book.specs.Refusals.{refusal_kind_of}
 use Rattle.rtgs_book.specs.declared.refusal.Refusal.{Refusal}

@@ -28,17 +28,17 @@ with_auto None members = members
 with_auto (Some auto) members = member (codes "auto") (resolution_data auto) members
 
 -- the value of an answer that this word names, with what was resolved after the command
-abbrev pub told : Option Resolution → List ℕ → Members → Data
-told auto word members = object (member (codes "answer") (string word) (with_auto auto members))
+abbrev pub answer_object : Option Resolution → List ℕ → Members → Data
+answer_object auto word members = object (member (codes "answer") (string word) (with_auto auto members))
 
 -- an order that was taken before and has not settled stands so now
 abbrev pub unsettled_repeat : Option Resolution → ℕ → Standing → Data
-unsettled_repeat auto number standing = told auto (codes "repeated")
+unsettled_repeat auto number standing = answer_object auto (codes "repeated")
     (member (codes "number") (whole number) (member (codes "state") (string (word_of standing)) no_members))
 
--- where the order stands now; its mark is told where it has settled
+-- where the order stands now; its mark is shown where it has settled
 abbrev pub repeated_order : Option Resolution → ℕ → OrderState → Data
-repeated_order auto number (state.Settled mark) = told auto (codes "repeated")
+repeated_order auto number (state.Settled mark) = answer_object auto (codes "repeated")
     (member (codes "mark") (whole mark) (member (codes "number") (whole number)
     (member (codes "state") (string (word_of standing.Settled)) no_members)))
 repeated_order auto number state.Queued = unsettled_repeat auto number standing.Queued
@@ -48,33 +48,33 @@ repeated_order auto number state.Rejected = unsettled_repeat auto number standin
 
 -- what is known now of a command that was done before
 abbrev pub repeated_data : Option Resolution → Known → Data
-repeated_data auto known.Nothing = told auto (codes "repeated") no_members
-repeated_data auto (known.Posting number) = told auto (codes "repeated")
+repeated_data auto known.Nothing = answer_object auto (codes "repeated") no_members
+repeated_data auto (known.Posting number) = answer_object auto (codes "repeated")
     (member (codes "number") (whole number) no_members)
 repeated_data auto (known.Order number state) = repeated_order auto number state
 
 -- the command's own answer, with what was resolved after it
 abbrev pub own_data : Option Resolution → Answer → Data
-own_data auto Added = told auto (codes "added") no_members
-own_data auto CreditSet = told auto (codes "credit set") no_members
-own_data auto (Posted number) = told auto (codes "posted") (member (codes "number") (whole number) no_members)
-own_data auto Opened = told auto (codes "opened") no_members
-own_data auto (Settled number mark) = told auto (word_of standing.Settled)
+own_data auto Added = answer_object auto (codes "added") no_members
+own_data auto CreditSet = answer_object auto (codes "credit set") no_members
+own_data auto (Posted number) = answer_object auto (codes "posted") (member (codes "number") (whole number) no_members)
+own_data auto Opened = answer_object auto (codes "opened") no_members
+own_data auto (Settled number mark) = answer_object auto (word_of standing.Settled)
     (member (codes "mark") (whole mark) (member (codes "number") (whole number) no_members))
-own_data auto (Queued number place) = told auto (word_of standing.Queued)
+own_data auto (Queued number place) = answer_object auto (word_of standing.Queued)
     (member (codes "number") (whole number) (member (codes "place") (whole place) no_members))
-own_data auto (Held number due) = told auto (word_of standing.Held)
+own_data auto (Held number due) = answer_object auto (word_of standing.Held)
     (member (codes "due") (string (date_text due)) (member (codes "number") (whole number) no_members))
-own_data auto (Withdrawn number) = told auto (word_of standing.Withdrawn)
+own_data auto (Withdrawn number) = answer_object auto (word_of standing.Withdrawn)
     (member (codes "number") (whole number) no_members)
-own_data auto (Resolved mark count value) = told auto (codes "resolved")
+own_data auto (Resolved mark count value) = answer_object auto (codes "resolved")
     (member (codes "count") (whole count) (member (codes "mark") (whole mark)
     (member (codes "value") (signed value) no_members)))
-own_data auto Nothing = told auto (codes "nothing") no_members
-own_data auto CutOffDone = told auto (codes "cut off") no_members
-own_data auto (Closed rejected) = told auto (codes "closed") (member (codes "rejected") (whole rejected) no_members)
+own_data auto Nothing = answer_object auto (codes "nothing") no_members
+own_data auto CutOffDone = answer_object auto (codes "cut off") no_members
+own_data auto (Closed rejected) = answer_object auto (codes "closed")
+    (member (codes "rejected") (whole rejected) no_members)
 own_data auto (Repeated known) = repeated_data auto known
 
--- the whole answer
 abbrev pub answer_data : WholeAnswer → Data
 answer_data answer = own_data answer.auto answer.own

@@ -44,7 +44,7 @@ order_in state.Held order = unsettled_order order standing.Held
 order_in state.Withdrawn order = unsettled_order order standing.Withdrawn
 order_in state.Rejected order = unsettled_order order standing.Rejected
 
--- what its sender is told of an order; its mark where it has settled
+-- what its sender is shown of an order; its mark where it has settled
 abbrev pub order_data : Order → Data
 order_data order = order_in order.state order
 

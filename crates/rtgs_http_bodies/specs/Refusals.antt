@@ -19,7 +19,7 @@ overdrawn_data first count = object (member (codes "code") (whole (entry_of kind
     (member (codes "count") (whole count) (member (codes "first") (string first)
     (member (codes "name") (string (entry_of kind.Overdrawn).name) no_members))))
 
--- the desk refused a command or a reading; of participants below zero the count and the first are told
+-- the desk refused a command or a reading; of participants below zero the count and the first are shown
 abbrev pub refused_data : Refusal → Data
 refused_data (Overdrawn first count) = overdrawn_data first count
 refused_data refusal = kind_data (refusal_kind_of refusal)
@@ -32,7 +32,7 @@ abbrev pub bad_row_data : ℕ → Data
 bad_row_data row = object (member (codes "code") (whole (entry_of kind.BadRow).number)
     (member (codes "name") (string (entry_of kind.BadRow).name) (member (codes "row") (whole row) no_members)))
 
--- a file of orders was refused; of a bad row its number is told
+-- a file of orders was refused; of a bad row its number is shown
 abbrev pub batch_refused_data : BatchFault → Data
 batch_refused_data (BadRow row) = bad_row_data row
 batch_refused_data fault = kind_data (batch_kind_of fault)

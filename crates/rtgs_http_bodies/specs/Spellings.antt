@@ -58,6 +58,5 @@ own_text auto (Closed rejected) = codes "{\"answer\":\"closed\"" ++ auto ++ code
     ++ decimal rejected ++ codes "}"
 own_text auto (Repeated known) = repeated_text auto known
 
--- the whole answer
 abbrev pub answer_text : WholeAnswer → List ℕ
 answer_text answer = own_text (auto_text answer.auto) answer.own

@@ -2,7 +2,7 @@
 ghost use Rattle.std.specs.Prelude.{◌≡◌, None, codes, IfOk};
 ghost use Rattle.serde_json.specs.Data.{Members, member, no_members, object, put};
 ghost use Rattle.serde_json.specs.View.{view};
-ghost use Rattle.rtgs_http_bodies.specs.Answers.{told, answer_data, own_data, repeated_data, repeated_order};
+ghost use Rattle.rtgs_http_bodies.specs.Answers.{answer_object, answer_data, own_data, repeated_data, repeated_order};
 ghost use Rattle.rtgs_http_bodies.specs.Answers.{resolution_data, unsettled_repeat};
 ghost use Rattle.rtgs_http_replies.specs.Bodies.{whole};
 ghost use Rattle.rtgs_http_replies.specs.Messages.{json_message};
@@ -22,7 +22,7 @@ pub fn answer_reply(alloc: Global, answer: WholeAnswer) -> Result<Reply, AllocEr
     Reply::json(alloc, StatusCode::OK, &value)
 }
 
-// What is told of an answer.
+// The JSON value of an answer.
 fn answer_value(alloc: Global, answer: WholeAnswer) -> Result<Value, AllocError>
     ensures { IfOk result (λ value. view value ≡ answer_data answer) }
 {
@@ -48,7 +48,7 @@ fn with_auto(alloc: Global, value: Value, auto: &Resolution) -> Result<Value, Al
     }
 }
 
-// What is told of what was resolved.
+// The JSON value of what was resolved.
 fn resolution_value(alloc: Global, auto: &Resolution) -> Result<Value, AllocError>
     ensures { IfOk result (λ value. view value ≡ resolution_data auto.now) }
 {
@@ -58,7 +58,7 @@ fn resolution_value(alloc: Global, auto: &Resolution) -> Result<Value, AllocErro
     json!(in alloc; {"count": count, "mark": mark, "value": value})
 }
 
-// What is told of the command's own answer.
+// The JSON value of the command's own answer.
 fn own_value(alloc: Global, answer: Answer) -> Result<Value, AllocError>
     ensures { IfOk result (λ value. view value ≡ own_data None answer) }
 {
@@ -95,7 +95,7 @@ fn own_value(alloc: Global, answer: Answer) -> Result<Value, AllocError>
     }
 }
 
-// What is told of a command that was done before.
+// The JSON value of a command that was done before.
 fn repeated_value(alloc: Global, known: Known) -> Result<Value, AllocError>
     ensures { IfOk result (λ value. view value ≡ repeated_data None known) }
 {
@@ -106,7 +106,7 @@ fn repeated_value(alloc: Global, known: Known) -> Result<Value, AllocError>
     }
 }
 
-// What is told of an order that was taken before.
+// The JSON value of an order that was taken before.
 fn repeated_order_value(alloc: Global, number: u64, state: OrderState) -> Result<Value, AllocError>
     ensures { IfOk result (λ value. view value ≡ repeated_order None number state) }
 {
@@ -124,14 +124,13 @@ fn repeated_order_value(alloc: Global, number: u64, state: OrderState) -> Result
 
 // An answer that is a word alone.
 fn word_value(alloc: Global, word: &str) -> Result<Value, AllocError>
-    ensures { IfOk result (λ value. view value ≡ told None word.now no_members) }
+    ensures { IfOk result (λ value. view value ≡ answer_object None word.now no_members) }
 {
     json!(in alloc; {"answer": word})
 }
 
-// An answer with a number.
 fn numbered_value(alloc: Global, word: &str, number: u64) -> Result<Value, AllocError>
-    ensures { IfOk result (λ value. view value ≡ told None word.now
+    ensures { IfOk result (λ value. view value ≡ answer_object None word.now
         (member (codes "number") (whole number) no_members)) }
 {
     json!(in alloc; {"answer": word, "number": number})

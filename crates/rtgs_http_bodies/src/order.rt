@@ -1,4 +1,4 @@
-//! What its sender is told of an order.
+//! The JSON value of an order, for its sender.
 ghost use Rattle.std.specs.Prelude.{◌≡◌, codes, IfOk};
 ghost use Rattle.serde_json.specs.Data.{Members, object, put, string};
 ghost use Rattle.serde_json.specs.View.{view};
@@ -22,7 +22,7 @@ pub fn order_reply(alloc: Global, order: &Order) -> Result<Reply, AllocError>
     Reply::new(alloc, StatusCode::OK, ContentType::Json, text.as_slice())
 }
 
-/// What its sender is told of this order, as JSON, with its due date where it has one, and its mark where it has
+/// What its sender is shown of this order, as JSON, with its due date where it has one, and its mark where it has
 /// settled. The only error is lack of memory.
 pub fn order_text(alloc: Global, order: &Order) -> Result<Vec<u8>, AllocError>
     ensures { IfOk result (λ text. text.items ≡ compact_text (order_data order.now)) }
@@ -31,7 +31,7 @@ pub fn order_text(alloc: Global, order: &Order) -> Result<Vec<u8>, AllocError>
     value.to_vec(alloc)
 }
 
-// What is told of an order.
+// The JSON value of an order.
 fn order_value(alloc: Global, order: &Order) -> Result<Value, AllocError>
     ensures { IfOk result (λ value. view value ≡ order_data order.now) }
 {
@@ -58,7 +58,7 @@ fn with_due(alloc: Global, value: Value, due: BusinessDate) -> Result<Value, All
     }
 }
 
-// What is told of an order but for its due date.
+// The JSON value of an order but for its due date.
 fn undated_value(alloc: Global, order: &Order) -> Result<Value, AllocError>
     ensures { IfOk result (λ value. view value ≡ order_data (undated order.now)) }
 {
@@ -71,7 +71,7 @@ fn undated_value(alloc: Global, order: &Order) -> Result<Value, AllocError>
     }
 }
 
-// What is told of an order that has settled under this mark, but for its due date.
+// The JSON value of an order that has settled under this mark, but for its due date.
 fn settled_value(alloc: Global, order: &Order, mark: u64) -> Result<Value, AllocError>
     ensures { IfOk result (λ value. view value ≡ settled_order (undated order.now) mark) }
 {
@@ -93,7 +93,7 @@ fn settled_value(alloc: Global, order: &Order, mark: u64) -> Result<Value, Alloc
     })
 }
 
-// What is told of an order that stands so and has not settled, but for its due date.
+// The JSON value of an order that stands so and has not settled, but for its due date.
 fn unsettled_value(alloc: Global, order: &Order, standing: Standing) -> Result<Value, AllocError>
     ensures { IfOk result (λ value. view value ≡ unsettled_order (undated order.now) standing) }
 {

@@ -1,4 +1,4 @@
-//! What a participant is told of its queue.
+//! What a participant is shown of its queue.
 ghost use Rattle.std.specs.Prelude.{◌≡◌, map, IfOk};
 ghost use Rattle.serde_json.specs.View.{view};
 ghost use Rattle.serde_json.specs.Written.{compact_text};
@@ -19,7 +19,7 @@ pub fn queue_reply(alloc: Global, orders: &[Order]) -> Result<Reply, AllocError>
     Reply::new(alloc, StatusCode::OK, ContentType::Json, text.as_slice())
 }
 
-/// What a participant is told of its queue, as JSON, in order. The only error is lack of memory.
+/// What a participant is shown of its queue, as JSON, in order. The only error is lack of memory.
 pub fn queue_text(alloc: Global, orders: &[Order]) -> Result<Vec<u8>, AllocError>
     ensures { IfOk result (λ text. text.items ≡ compact_text (queue_data orders.now)) }
 {
@@ -27,7 +27,7 @@ pub fn queue_text(alloc: Global, orders: &[Order]) -> Result<Vec<u8>, AllocError
     value.to_vec(alloc)
 }
 
-// What is told of a queue.
+// The JSON value of a queue.
 fn queue_value(alloc: Global, orders: &[Order]) -> Result<Value, AllocError>
     ensures { IfOk result (λ value. view value ≡ queue_data orders.now) }
 {
@@ -35,7 +35,7 @@ fn queue_value(alloc: Global, orders: &[Order]) -> Result<Value, AllocError>
     json!(in alloc; {"orders": items})
 }
 
-// What is told of each order of a queue, in order.
+// The JSON value of each order of a queue, in order.
 fn queued_values(alloc: Global, orders: &[Order]) -> Result<Vec<Value>, AllocError>
     ensures { IfOk result (λ items. map view items.items ≡ queued_from 1 orders.now) }
 {
@@ -47,7 +47,7 @@ fn queued_values(alloc: Global, orders: &[Order]) -> Result<Vec<Value>, AllocErr
     Ok(items)
 }
 
-// What is told of an order at this place of its queue.
+// The JSON value of an order at this place of its queue.
 fn queued_value(alloc: Global, order: &Order, place: usize) -> Result<Value, AllocError>
     ensures { IfOk result (λ value. view value ≡ queued_data place order.now) }
 {

@@ -17,9 +17,9 @@ use serde_json::{Value, json};
 use std::alloc::{AllocError, Global};
 
 /// The reply that tells a kind of refusal by its number and its name. The only error is lack of memory. That memory was
-/// refused is told by the fixed reply, which takes none.
+/// refused is said by the fixed reply, which takes none.
 pub fn kind_reply(alloc: Global, kind: RefusalKind) -> Result<Reply, AllocError>
-    ensures told { IfOk result (λ reply. reply ≡ kind_message kind) }
+    ensures replied { IfOk result (λ reply. reply ≡ kind_message kind) }
     ensures no_memory { kind ≡ RefusalKind.OutOfMemory → IsOk result }
 {
     match kind {
@@ -31,7 +31,7 @@ pub fn kind_reply(alloc: Global, kind: RefusalKind) -> Result<Reply, AllocError>
 /// The reply that tells why the desk refused a command or a reading. The only error is lack of memory, and none comes
 /// where the refusal is one.
 pub fn refusal_reply(alloc: Global, refusal: Refusal) -> Result<Reply, AllocError>
-    ensures told { IfOk result (λ reply. reply ≡ refused_message refusal) }
+    ensures replied { IfOk result (λ reply. reply ≡ refused_message refusal) }
     ensures no_memory { refusal ≡ Refusal.OutOfMemory → IsOk result }
 {
     match &refusal {
@@ -71,7 +71,7 @@ fn status_with(number: u16) -> StatusCode
     StatusCode::from_u16(number).unwrap()
 }
 
-// What is told where participants are below zero.
+// The JSON value where participants are below zero.
 fn overdrawn_value(alloc: Global, first: &Code, count: u64) -> Result<Value, AllocError>
     ensures { IfOk result (λ value. view value ≡ overdrawn_data first.now count) }
 {
@@ -81,7 +81,7 @@ fn overdrawn_value(alloc: Global, first: &Code, count: u64) -> Result<Value, All
     json!(in alloc; {"code": code, "count": count, "first": first, "name": name})
 }
 
-// What is told of a bad row.
+// The JSON value of a bad row.
 fn bad_row_value(alloc: Global, row: u64) -> Result<Value, AllocError>
     ensures { IfOk result (λ value. view value ≡ bad_row_data row) }
 {

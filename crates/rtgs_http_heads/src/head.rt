@@ -1,6 +1,6 @@
 //! What a head asks for.
+use crate::good_head::GoodHead;
 use crate::head_fault::HeadFault;
-use crate::request::Request;
 use crate::route::Route;
 use crate::routing::route_of;
 use rtgs_money::KeyDigest;
@@ -28,7 +28,7 @@ impl<'a> Head<'a> {
     pub fn read(alloc: Global, region: &'a [u8]) -> Result<Head<'a>, HeadFault>
         ensures { ReadsHead region.now result }
     {
-        let Some(request) = Request::read(region) else {
+        let Some(request) = GoodHead::read(region) else {
             return Err(HeadFault::BadHead);
         };
         let (route, parameter) = route_of(alloc, request.method, request.target)?;

@@ -53,7 +53,6 @@ pub fn command_routes(alloc: Global) -> Result<Router<Route>, AllocError>
     Ok(router)
 }
 
-// Adds a path of banks.
 fn add_bank(router: &mut Router<Route>, path: &str, route: BankRoute) -> Result<(), AllocError>
     ensures { OnOk result (router.new ≡ with_path (parse_route path.now) (Bank route) router.old) }
 {
@@ -71,8 +70,8 @@ fn add_operator(
     add(router, path, Route::Operator(route))
 }
 
-// Adds a path and its route. A path that conflicts with another would be told as lack of memory too; the tests of each
-// route show that none does.
+// Adds a path and its route. A path that conflicts with another would be answered as lack of memory too; the tests of
+// each route show that none does.
 fn add(router: &mut Router<Route>, path: &str, route: Route) -> Result<(), AllocError>
     ensures { OnOk result (router.new ≡ with_path (parse_route path.now) route router.old) }
 {

@@ -20,9 +20,9 @@ pub believed : {K : Type 0} (g : Ghosts K) (desk : Seen K) (digest : List ℕ) (
     → ((book : Book) → HasParticipants desk book → g.has_failed desk.keeper ≡ false → result ≡ Ok
     (code_under book digest))
     → (g.has_failed desk.keeper ≡ true → result ≡ Err Failed) → KnowsOf g desk code_of → code ≡ code_of digest
-believed g desk digest result code code_of is told failed known =
+believed g desk digest result code code_of is remembered failed known =
     let works = answers_work (g.has_failed desk.keeper) result code is failed in
     let memory = known works in
-    let e = told memory.0 memory.1 works in
+    let e = remembered memory.0 memory.1 works in
     let same : code ≡ code_under memory.0 digest = cc in
     same ∙ sym (ap (λ (f : List ℕ → Option (List ℕ)). f digest) memory.2)

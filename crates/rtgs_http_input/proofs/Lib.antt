@@ -1,4 +1,4 @@
 mod Believed
 mod Joined
 mod Known
-mod Told
+mod StepOutcomes

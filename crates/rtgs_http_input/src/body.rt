@@ -54,14 +54,14 @@ fn fill<R: Read>(reader: &mut R, piece: &mut [u8; PIECE], feed: &mut BodyFeed) -
 {
     // Each piece has a byte at least.
     for _turn in 0..LONGEST_BODY {
-        let many = match read_piece(reader, piece) {
-            Ok(many) => many,
+        let count = match read_piece(reader, piece) {
+            Ok(count) => count,
             Err(failed) => return Err(Unread::Reader(failed)),
         };
-        if many == 0 {
+        if count == 0 {
             return Err(Unread::Faulty(HttpFault::Truncated));
         }
-        match feed.feed(&piece[..many]) {
+        match feed.feed(&piece[..count]) {
             BodyStep::Full { taken: _ } => return Ok(()),
             BodyStep::More => {}
         }

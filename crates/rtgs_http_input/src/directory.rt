@@ -19,7 +19,7 @@ pub trait Directory {
 
     /// The code of the participant with this digest, if there is one.
     fn code_of(&self, digest: &KeyDigest) -> Result<Option<Code>, DirectoryFailed>
-        ensures told { IfOk result (λ code. (code_of : List ℕ → Option (List ℕ))
+        ensures found { IfOk result (λ code. (code_of : List ℕ → Option (List ℕ))
             → knows self.now code_of → code ≡ code_of digest.now) }
         ensures failed { OnErr result (has_failed self.now ≡ true) };
 }

@@ -33,15 +33,15 @@ pub fn read_region<R: Read>(
     };
     // Each piece has a byte at least.
     for _turn in 0..LONGEST_HEAD {
-        let many = match read_piece(reader, piece) {
-            Ok(many) => many,
+        let count = match read_piece(reader, piece) {
+            Ok(count) => count,
             Err(failed) => return Err(Unread::Reader(failed)),
         };
-        if many == 0 {
+        if count == 0 {
             return Err(Unread::Faulty(HttpFault::Truncated));
         }
-        match feed.feed(&piece[..many]) {
-            HeadStep::Region { taken } => return Ok((feed, taken, many)),
+        match feed.feed(&piece[..count]) {
+            HeadStep::Region { taken } => return Ok((feed, taken, count)),
             HeadStep::TooLong => return Err(Unread::Faulty(HttpFault::HeadTooLong)),
             HeadStep::More => {}
         }

@@ -20,19 +20,20 @@ pub(crate) fn read_piece<R: Read>(
     ensures bound { ReadsAtMost result piece.new }
     ensures bytes { ReadConsumes (R.remaining reader.old) (R.remaining reader.new) result piece.new }
 {
+    // The contract is by cases of the result, and the prover sees them where it is taken apart.
     match given_of(reader.read(&mut piece[..])) {
-        Ok(many) => Ok(many),
+        Ok(count) => Ok(count),
         Err(failed) => Err(failed),
     }
 }
 
 // How many bytes a reader gave, by its answer. It failed where the answer is an error, and none else is called so.
 fn given_of(answer: io::Result<usize>) -> Result<usize, ReaderFailed>
-    ensures given { IfOk result (λ many. answer ≡ Ok many) }
+    ensures given { IfOk result (λ count. answer ≡ Ok count) }
     ensures failed { OnErr result (IsErr answer) }
 {
     match answer {
-        Ok(many) => Ok(many),
+        Ok(count) => Ok(count),
         Err(_) => Err(ReaderFailed(())),
     }
 }

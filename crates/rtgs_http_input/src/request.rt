@@ -67,7 +67,6 @@ fn read_behind<R: Read, D: Directory>(
     read_content(alloc, reader, &plan, caller, piece, from, to)
 }
 
-// The caller of an admission.
 fn caller_of<D: Directory>(directory: &D, admission: Admission) -> Result<Admitted, Unread>
     ensures caller { FindsCaller (D.knows directory.now) admission result }
     ensures failed { result ≡ Err Unread.DirectoryFailed → D.has_failed directory.now ≡ true }

@@ -1,4 +1,4 @@
--- What an input asks for depends on whose the key is that it bears, and on no other.
+-- What an input asks for depends on whose the key is that it carries, and on no other.
 use Rattle.std.proofs.Common.{◌≡◌, ℕ, List, Option, Some, None, Result, Ok, Err, refl, subst, ◌∙◌}
 use Rattle.httparse.specs.Grammar.{RequestHead}
 use Rattle.rtgs_http_feeds.specs.Region.{StartsWith}
@@ -7,7 +7,7 @@ use Rattle.rtgs_http_heads.specs.Heads.{IsGoodHead, fields_of}
 use Rattle.rtgs_http_heads.specs.Targets.{is_post}
 use Rattle.rtgs_http_heads.specs.declared.route.Route.{Route}
 use Rattle.rtgs_http_heads.specs.declared.route.Route.TheVariants.{Bank, Operator}
-use Rattle.rtgs_http_requests.specs.Access.{BearsKey}
+use Rattle.rtgs_http_requests.specs.Access.{CarriesKey}
 use Rattle.rtgs_http_requests.specs.Bodies.{body_length}
 use Rattle.rtgs_http_requests.specs.Callers.{CodeOf, caller_under}
 use Rattle.rtgs_http_requests.specs.Exchange.{AsksFor, HasRegion, HasHead, HasRoute, HasCaller, HasBody}
@@ -15,7 +15,7 @@ use Rattle.rtgs_http_requests.specs.Meaning.{Answer, Means}
 use Rattle.rtgs_http_requests.specs.Steps.{Then, Goes}
 use Rattle.rtgs_http_requests.specs.declared.http_fault.HttpFault.{HttpFault}
 
--- the laws of lower crates by which an input bears one key at most
+-- the laws of lower crates by which an input carries one key at most
 pub record KeysOnce : Type 0 where
   pub regions : (input one other rest more : List ℕ) → StartsWith input one rest → StartsWith input other more
       → one ≡ other
@@ -23,7 +23,7 @@ pub record KeysOnce : Type 0 where
       → IsGoodHead region other more → one ≡ other
   pub keys : (fields : Fields) (one other : Option (List ℕ)) → HasKey fields one → HasKey fields other → one ≡ other
 
-pub key_once : KeysOnce → (input one other : List ℕ) → BearsKey input one → BearsKey input other → one ≡ other
+pub key_once : KeysOnce → (input one other : List ℕ) → CarriesKey input one → CarriesKey input other → one ≡ other
 key_once laws input one other a b =
     let region = laws.regions input a.region b.region a.rest b.rest a.starts b.starts in
     let good = subst (λ (r : List ℕ). IsGoodHead r a.head a.declared) region a.good in
@@ -37,7 +37,7 @@ then_alike : {A B : Type 0} (Step : Result A HttpFault → Type 0) (next after :
     → Then Step next answer → Then Step after answer
 then_alike {A} {B} Step next after answer alike x = by x.0 x.1 x.2
   where
-    by : (told : Result A HttpFault) → Step told → Goes next answer told → Then Step after answer
+    by : (outcome : Result A HttpFault) → Step outcome → Goes next answer outcome → Then Step after answer
     by (Ok value) step goes = (Ok value, step, alike value step goes)
     by (Err fault) step goes = (Err fault, step, goes)
 
@@ -52,7 +52,7 @@ caller_alike operator one other (Bank route) (Some digest) same = rw (same diges
 abbrev WithRoute : List ℕ → CodeOf → List ℕ → RequestHead → Option ℕ → Route × List ℕ → Answer → Type 0
 WithRoute operator code_of rest head declared found =
     Then (HasCaller operator code_of found.0 head) (λ caller.
-    Then (λ told. told ≡ body_length (is_post head.method) declared) (λ size.
+    Then (λ outcome. outcome ≡ body_length (is_post head.method) declared) (λ size.
     Then (HasBody rest size) (λ body.
     Means caller found.1 body)))
 
@@ -66,7 +66,7 @@ WithRegion operator code_of parts = Then (HasHead parts.0) (WithHead operator co
 
 -- with participants who have the key alike, the same is asked
 pub asked_alike : (operator input : List ℕ) (one other : CodeOf) (answer : Answer)
-    → ((digest : List ℕ) → BearsKey input digest → one digest ≡ other digest) → AsksFor operator one input answer
+    → ((digest : List ℕ) → CarriesKey input digest → one digest ≡ other digest) → AsksFor operator one input answer
     → AsksFor operator other input answer
 asked_alike operator input one other answer same =
     then_alike (HasRegion input) (WithRegion operator one) (WithRegion operator other) answer (λ parts starts.

@@ -31,9 +31,9 @@ use Rattle.rtgs_http_requests.specs.declared.http_fault.HttpFault.{HttpFault}
 use Rattle.rtgs_http_requests.specs.declared.http_fault.HttpFault.TheVariants.{OutOfMemory}
 use Rattle.rtgs_book.specs.declared.reading.Reading.{Reading}
 use Rattle.rtgs_http_laws.specs.Alike.{EndAlike}
-use Rattle.rtgs_http_banks.specs.Dealings.{ComesTo, Submits, SubmitsAll, Reads, IsReadOf}
-use Rattle.rtgs_http_banks.specs.Exchange.{Deals}
-use Rattle.rtgs_http_banks.specs.Sayings.{IsSaid, IsSentOrLost, fault_message, reply_message, reading_message}
+use Rattle.rtgs_http_banks.specs.Handling.{ComesTo, Submits, SubmitsAll, Reads, IsReadOf}
+use Rattle.rtgs_http_banks.specs.Exchange.{Handles}
+use Rattle.rtgs_http_banks.specs.ReplyMessages.{IsSaid, IsSentOrLost, fault_message, reply_message, reading_message}
 
 -- a step has one outcome
 abbrev pub StepsOnce : Type 0
@@ -59,16 +59,16 @@ run_once steps old new last (c ∷ commands) (r ∷ replies) (o ∷ others) one 
     (subst (λ (b : Book). Run b commands others last) (sym first.1) other.2) in
     let same = first.0 in let later = rest.0 in (cc, rest.1)
 
--- what is said or told with another status than 503 is what was to be said
+-- what is said or sent with another status than 503 is what was to be said
 said : (wanted sent : Message) → sent.status ≢ 503 → IsSaid wanted sent → sent ≡ wanted
 said wanted sent done (inl e) = e
 said wanted sent done (inr e) = absurd (done (ap (λ (m : Message). m.status) e))
 
-pub told_of : (wanted sent : Message) → sent.status ≢ 503 → IsSentOrLost wanted sent → sent ≡ wanted
-told_of wanted sent done (inl e) = e
-told_of wanted sent done (inr e) = absurd (done (ap (λ (m : Message). m.status) e))
+pub sent_is : (wanted sent : Message) → sent.status ≢ 503 → IsSentOrLost wanted sent → sent ≡ wanted
+sent_is wanted sent done (inl e) = e
+sent_is wanted sent done (inr e) = absurd (done (ap (λ (m : Message). m.status) e))
 
--- a reply that is told with another status is judged
+-- a reply that is sent with another status is judged
 pub judged : (reply : Reply) → (reply_message reply).status ≢ 503 → is_judged reply ≡ true
 judged (Ok answer) done = refl
 judged (Err refusal.UnknownParticipant) done = refl
@@ -95,12 +95,12 @@ judged (Err refusal.OutOfMemory) done = absurd (done refl)
 judged (Err refusal.StoreFault) done = absurd (done refl)
 judged (Err refusal.Failed) done = absurd (done refl)
 
-submits_alike : {K : Type 0} (g : Ghosts K) (old : Book) (command : Command) (one other : Seen K) (sent told : Message)
-    → StepsOnce → sent.status ≢ 503 → told.status ≢ 503 → Submits g old command one sent
-    → Submits g old command other told → EndAlike g one other sent told
-submits_alike g old command one other sent told steps done ended a b =
-    let said = told_of (reply_message a.reply) sent done a.told in
-    let same = told_of (reply_message b.reply) told ended b.told in
+submits_alike : {K : Type 0} (g : Ghosts K) (old : Book) (command : Command) (one other : Seen K) (sent again : Message)
+    → StepsOnce → sent.status ≢ 503 → again.status ≢ 503 → Submits g old command one sent
+    → Submits g old command other again → EndAlike g one other sent again
+submits_alike g old command one other sent again steps done ended a b =
+    let said = sent_is (reply_message a.reply) sent done a.sent_or_lost in
+    let same = sent_is (reply_message b.reply) again ended b.sent_or_lost in
     let first = judged a.reply (λ e. done (ap (λ (m : Message). m.status) said ∙ e)) in
     let second = judged b.reply (λ e. ended (ap (λ (m : Message). m.status) same ∙ e)) in
     let once = steps old a.acts.book b.acts.book command a.reply b.reply (a.acts.judged first)
@@ -154,12 +154,14 @@ not_stopped None done = refl
 not_stopped (Some refusal) done = absurd (done refl)
 
 batches_alike : {K : Type 0} (g : Ghosts K) (old : Book) (sender : List ℕ) (rows : List OrderRow) (one other : Seen K)
-    (sent told : Message) → StepsOnce → sent.status ≢ 503 → told.status ≢ 503 → SubmitsAll g old sender rows one sent
-    → SubmitsAll g old sender rows other told → EndAlike g one other sent told
-batches_alike g old sender rows one other sent told steps done past a b =
-    let said = told_of (message (batch_status a.stopped) Csv (results_text rows a.replies a.stopped)) sent done a.told
+    (sent again : Message) → StepsOnce → sent.status ≢ 503 → again.status ≢ 503 → SubmitsAll g old sender rows one sent
+    → SubmitsAll g old sender rows other again → EndAlike g one other sent again
+batches_alike g old sender rows one other sent again steps done past a b =
+    let said =
+    sent_is (message (batch_status a.stopped) Csv (results_text rows a.replies a.stopped)) sent done a.sent_or_lost
     in
-    let same = told_of (message (batch_status b.stopped) Csv (results_text rows b.replies b.stopped)) told past b.told
+    let same =
+    sent_is (message (batch_status b.stopped) Csv (results_text rows b.replies b.stopped)) again past b.sent_or_lost
     in
     let none = not_stopped a.stopped (λ e. done (ap (λ (m : Message). m.status) said ∙ e)) in
     let neither = not_stopped b.stopped (λ e. past (ap (λ (m : Message). m.status) same ∙ e)) in
@@ -191,55 +193,57 @@ read_of g wanted desk sent done (inl (works, h)) = said wanted sent done h
 read_of g wanted desk sent done (inr (failed, inl e)) = absurd (done (ap (λ (m : Message). m.status) e))
 read_of g wanted desk sent done (inr (failed, inr e)) = absurd (done (ap (λ (m : Message). m.status) e))
 
-readings_alike : {K : Type 0} (g : Ghosts K) (old : Book) (reading : Reading) (one other : Seen K) (sent told : Message)
-    → sent.status ≢ 503 → told.status ≢ 503 → Reads g old reading one sent → Reads g old reading other told
-    → EndAlike g one other sent told
-readings_alike g old reading one other sent told done ended a b = record {
+readings_alike : {K : Type 0} (g : Ghosts K) (old : Book) (reading : Reading) (one other : Seen K)
+    (sent again : Message)
+    → sent.status ≢ 503 → again.status ≢ 503 → Reads g old reading one sent → Reads g old reading other again
+    → EndAlike g one other sent again
+readings_alike g old reading one other sent again done ended a b = record {
   reply = read_of g (reading_message old reading) one sent done a.1
-      ∙ sym (read_of g (reading_message old reading) other told ended b.1);
+      ∙ sym (read_of g (reading_message old reading) other again ended b.1);
   book = old;
   one_holds = a.0.kept;
   other_holds = b.0.kept;
 }
 
-faults_alike : {K : Type 0} (g : Ghosts K) (old : Book) (fault : HttpFault) (one other : Seen K) (sent told : Message)
-    → sent.status ≢ 503 → told.status ≢ 503 → ComesTo g old (Err fault) one sent → ComesTo g old (Err fault) other told
-    → EndAlike g one other sent told
-faults_alike g old fault one other sent told done ended a b = record {
-  reply = said (fault_message fault) sent done a.2 ∙ sym (said (fault_message fault) told ended b.2);
+faults_alike : {K : Type 0} (g : Ghosts K) (old : Book) (fault : HttpFault) (one other : Seen K) (sent again : Message)
+    → sent.status ≢ 503 → again.status ≢ 503 → ComesTo g old (Err fault) one sent
+    → ComesTo g old (Err fault) other again
+    → EndAlike g one other sent again
+faults_alike g old fault one other sent again done ended a b = record {
+  reply = said (fault_message fault) sent done a.2 ∙ sym (said (fault_message fault) again ended b.2);
   book = old;
   one_holds = a.0.kept;
   other_holds = b.0.kept;
 }
 
-come_alike : {K : Type 0} (g : Ghosts K) (old : Book) (answer same : Answer) (one other : Seen K) (sent told : Message)
-    → StepsOnce → AreTheSame answer same → sent.status ≢ 503 → told.status ≢ 503 → ComesTo g old answer one sent
-    → ComesTo g old same other told → EndAlike g one other sent told
-come_alike g old (Err fault) (Err bad) one other sent told steps alike done ended a b =
-    faults_alike g old fault one other sent told done ended a
-    (subst (λ (f : HttpFault). ComesTo g old (Err f) other told) (sym alike) b)
-come_alike g old (Err fault) (Ok asked) one other sent told steps alike done ended a b = absurd alike
-come_alike g old (Ok asked) (Err fault) one other sent told steps alike done ended a b = absurd alike
-come_alike g old (Ok (Submit c)) (Ok (Submit d)) one other sent told steps alike done ended a b =
-    submits_alike g old c one other sent told steps done ended a
-    (subst (λ (x : Command). Submits g old x other told) (sym alike) b)
-come_alike g old (Ok (Submit c)) (Ok (Batch s rows)) one other sent told steps alike done ended a b = absurd alike
-come_alike g old (Ok (Submit c)) (Ok (Read r)) one other sent told steps alike done ended a b = absurd alike
-come_alike g old (Ok (Batch s rows)) (Ok (Submit c)) one other sent told steps alike done ended a b = absurd alike
-come_alike g old (Ok (Batch s rows)) (Ok (Batch t more)) one other sent told steps alike done ended (inl a) b =
+come_alike : {K : Type 0} (g : Ghosts K) (old : Book) (answer same : Answer) (one other : Seen K) (sent again : Message)
+    → StepsOnce → AreTheSame answer same → sent.status ≢ 503 → again.status ≢ 503 → ComesTo g old answer one sent
+    → ComesTo g old same other again → EndAlike g one other sent again
+come_alike g old (Err fault) (Err bad) one other sent again steps alike done ended a b =
+    faults_alike g old fault one other sent again done ended a
+    (subst (λ (f : HttpFault). ComesTo g old (Err f) other again) (sym alike) b)
+come_alike g old (Err fault) (Ok asked) one other sent again steps alike done ended a b = absurd alike
+come_alike g old (Ok asked) (Err fault) one other sent again steps alike done ended a b = absurd alike
+come_alike g old (Ok (Submit c)) (Ok (Submit d)) one other sent again steps alike done ended a b =
+    submits_alike g old c one other sent again steps done ended a
+    (subst (λ (x : Command). Submits g old x other again) (sym alike) b)
+come_alike g old (Ok (Submit c)) (Ok (Batch s rows)) one other sent again steps alike done ended a b = absurd alike
+come_alike g old (Ok (Submit c)) (Ok (Read r)) one other sent again steps alike done ended a b = absurd alike
+come_alike g old (Ok (Batch s rows)) (Ok (Submit c)) one other sent again steps alike done ended a b = absurd alike
+come_alike g old (Ok (Batch s rows)) (Ok (Batch t more)) one other sent again steps alike done ended (inl a) b =
     absurd (done (ap (λ (m : Message). m.status) a.2))
-come_alike g old (Ok (Batch s rows)) (Ok (Batch t more)) one other sent told steps alike done ended (inr a) (inl b) =
+come_alike g old (Ok (Batch s rows)) (Ok (Batch t more)) one other sent again steps alike done ended (inr a) (inl b) =
     absurd (ended (ap (λ (m : Message). m.status) b.2))
-come_alike g old (Ok (Batch s rows)) (Ok (Batch t more)) one other sent told steps alike done ended (inr a) (inr b) =
-    batches_alike g old s rows.items one other sent told steps done ended a
-    (subst (λ (x : List ℕ). SubmitsAll g old x rows.items other told) (sym alike.0)
-    (subst (λ (x : List OrderRow). SubmitsAll g old t x other told) (sym alike.1) b))
-come_alike g old (Ok (Batch s rows)) (Ok (Read r)) one other sent told steps alike done ended a b = absurd alike
-come_alike g old (Ok (Read r)) (Ok (Submit c)) one other sent told steps alike done ended a b = absurd alike
-come_alike g old (Ok (Read r)) (Ok (Batch s rows)) one other sent told steps alike done ended a b = absurd alike
-come_alike g old (Ok (Read r)) (Ok (Read q)) one other sent told steps alike done ended a b =
-    readings_alike g old r one other sent told done ended a
-    (subst (λ (x : Reading). Reads g old x other told) (sym alike) b)
+come_alike g old (Ok (Batch s rows)) (Ok (Batch t more)) one other sent again steps alike done ended (inr a) (inr b) =
+    batches_alike g old s rows.items one other sent again steps done ended a
+    (subst (λ (x : List ℕ). SubmitsAll g old x rows.items other again) (sym alike.0)
+    (subst (λ (x : List OrderRow). SubmitsAll g old t x other again) (sym alike.1) b))
+come_alike g old (Ok (Batch s rows)) (Ok (Read r)) one other sent again steps alike done ended a b = absurd alike
+come_alike g old (Ok (Read r)) (Ok (Submit c)) one other sent again steps alike done ended a b = absurd alike
+come_alike g old (Ok (Read r)) (Ok (Batch s rows)) one other sent again steps alike done ended a b = absurd alike
+come_alike g old (Ok (Read r)) (Ok (Read q)) one other sent again steps alike done ended a b =
+    readings_alike g old r one other sent again done ended a
+    (subst (λ (x : Reading). Reads g old x other again) (sym alike) b)
 
 pub wanting : {K : Type 0} (g : Ghosts K) (old : Book) (answer : Answer) (desk : Seen K) (sent : Message)
     → sent.status ≢ 503 → ComesTo g old answer desk sent → answer ≡ Err OutOfMemory → ⊥
@@ -248,10 +252,11 @@ wanting g old answer desk sent done comes e =
     done (ap (λ (m : Message). m.status) (said (fault_message OutOfMemory) sent done c.2))
 
 pub determined : {K : Type 0} (g : Ghosts K) (operator input : List ℕ) (old : Book) (one other : Seen K)
-    (sent told : Message) → StepsOnce → AsksOnce → Deals g operator old input one sent
-    → Deals g operator old input other told → sent.status ≢ 503 → told.status ≢ 503 → EndAlike g one other sent told
-determined g operator input old one other sent told steps asks a b done ended =
-    come_alike g old a.answer b.answer one other sent told steps
+    (sent again : Message) → StepsOnce → AsksOnce → Handles g operator old input one sent
+    → Handles g operator old input other again → sent.status ≢ 503 → again.status ≢ 503
+    → EndAlike g one other sent again
+determined g operator input old one other sent again steps asks a b done ended =
+    come_alike g old a.answer b.answer one other sent again steps
     (asks operator (code_under old) input a.answer b.answer a.asks b.asks
-    (wanting g old a.answer one sent done a.comes) (wanting g old b.answer other told ended b.comes))
+    (wanting g old a.answer one sent done a.comes) (wanting g old b.answer other again ended b.comes))
     done ended a.comes b.comes

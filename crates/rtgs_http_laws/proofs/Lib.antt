@@ -2,4 +2,4 @@ mod Callers
 mod Determined
 mod OwnReplies
 mod OwnRows
-mod ToldAgain
+mod RepeatedRequests

@@ -1,10 +1,10 @@
--- A participant is told of its own rows.
+-- A participant is shown its own rows.
 use Rattle.std.proofs.Common.{◌≡◌, ℕ, List, Some, Ok, Err, sym, ap, subst, ◌∙◌, inl, inr}
 use Rattle.std.specs.Prelude.{◌≢◌}
 use Rattle.rtgs_book.specs.declared.book.Book.{Book}
 use Rattle.rtgs_desk.specs.Seen.{Seen}
 use Rattle.rtgs_http_replies.specs.Messages.{Message}
-use Rattle.rtgs_http_requests.specs.Access.{BearsKey, MayAsk, IsOwn}
+use Rattle.rtgs_http_requests.specs.Access.{CarriesKey, MayAsk, IsOwn}
 use Rattle.rtgs_http_requests.specs.Callers.{CodeOf}
 use Rattle.rtgs_http_requests.specs.Exchange.{AsksFor}
 use Rattle.rtgs_http_requests.specs.Meaning.{Answer}
@@ -14,17 +14,17 @@ use Rattle.rtgs_http_requests.specs.declared.asked.Asked.TheVariants.{Submit, Ba
 use Rattle.rtgs_book.specs.declared.reading.Reading.{Reading}
 use Rattle.rtgs_keeper.specs.declared.keeper.Keeper.{Ghosts}
 use Rattle.rtgs_ledger.specs.Keys.{code_under}
-use Rattle.rtgs_http_banks.specs.Dealings.{ComesTo, Reads}
-use Rattle.rtgs_http_banks.specs.Exchange.{Deals}
+use Rattle.rtgs_http_banks.specs.Handling.{ComesTo, Reads}
+use Rattle.rtgs_http_banks.specs.Exchange.{Handles}
 use Rattle.rtgs_http_laws.specs.Own.{AgreeFor, IsSentBy}
-use Rattle.rtgs_http_banks.specs.Sayings.{reading_message}
+use Rattle.rtgs_http_banks.specs.ReplyMessages.{reading_message}
 use Rattle.rtgs_http_laws.proofs.Callers.{KeysOnce, key_once, asked_alike}
 use Rattle.rtgs_http_laws.proofs.Determined.{AsksOnce, read_of, wanting}
 use Rattle.rtgs_http_laws.proofs.OwnRows.{own_rows}
 
--- the key that an input bears is one participant's in two books
+-- the key that an input carries is one participant's in two books
 pub same_bearer : KeysOnce → (operator input code : List ℕ) (one other : Book) → IsSentBy operator one code input
-    → IsSentBy operator other code input → (digest : List ℕ) → BearsKey input digest
+    → IsSentBy operator other code input → (digest : List ℕ) → CarriesKey input digest
     → code_under one digest ≡ code_under other digest
 same_bearer laws operator input code one other by_one by_other digest key =
     ap (code_under one) (key_once laws input digest by_one.digest key by_one.key) ∙ by_one.participant
@@ -34,7 +34,7 @@ same_bearer laws operator input code one other by_one by_other digest key =
 abbrev pub AskOwn : Type 0
 AskOwn = (operator : List ℕ) (code_of : CodeOf) (input : List ℕ) (asked : Asked)
     → AsksFor operator code_of input (Ok asked)
-    → (digest : List ℕ) × BearsKey input digest × MayAsk operator code_of digest asked
+    → (digest : List ℕ) × CarriesKey input digest × MayAsk operator code_of digest asked
 
 -- what is asked with a participant's key is its own
 pub own_asked : KeysOnce → AskOwn → (operator input code : List ℕ) (book : Book) (asked : Asked)
@@ -60,26 +60,26 @@ reads g old (Ok (Batch sender rows)) reading desk sent same comes = absurd same
 reads g old (Ok (Read other)) reading desk sent same comes =
     subst (λ (r : Reading). Reads g old r desk sent) same comes
 
--- an input that asks for this reading is told it
-told_reading : {K : Type 0} (g : Ghosts K) (operator input : List ℕ) (old : Book) (reading : Reading) (desk : Seen K)
+-- an input that asks for this reading is sent it
+reading_sent : {K : Type 0} (g : Ghosts K) (operator input : List ℕ) (old : Book) (reading : Reading) (desk : Seen K)
     (sent : Message) → AsksOnce → AsksFor operator (code_under old) input (Ok (Read reading))
-    → Deals g operator old input desk sent → sent.status ≢ 503 → sent ≡ reading_message old reading
-told_reading g operator input old reading desk sent once asks deals done =
-    let same = once operator (code_under old) input deals.answer (Ok (Read reading)) deals.asks asks
-    (wanting g old deals.answer desk sent done deals.comes) (λ e. let no : ⊥ = cc in no) in
-    let read = reads g old deals.answer reading desk sent same deals.comes in
+    → Handles g operator old input desk sent → sent.status ≢ 503 → sent ≡ reading_message old reading
+reading_sent g operator input old reading desk sent once asks handles done =
+    let same = once operator (code_under old) input handles.answer (Ok (Read reading)) handles.asks asks
+    (wanting g old handles.answer desk sent done handles.comes) (λ e. let no : ⊥ = cc in no) in
+    let read = reads g old handles.answer reading desk sent same handles.comes in
     read_of g (reading_message old reading) desk sent done read.1
 
 pub own_replies : {K : Type 0} (g : Ghosts K) → KeysOnce → AsksOnce → AskOwn → (operator input code : List ℕ)
-    (one other : Book) (first second : Seen K) (sent told : Message) (reading : Reading) → AgreeFor code one other
+    (one other : Book) (first second : Seen K) (sent again : Message) (reading : Reading) → AgreeFor code one other
     → IsSentBy operator one code input → IsSentBy operator other code input
-    → AsksFor operator (code_under one) input (Ok (Read reading)) → Deals g operator one input first sent
-    → Deals g operator other input second told → sent.status ≢ 503 → told.status ≢ 503 → told ≡ sent
-own_replies g laws once own operator input code one other first second sent told reading agree by_one by_other asks
-    deals deal done ended =
+    → AsksFor operator (code_under one) input (Ok (Read reading)) → Handles g operator one input first sent
+    → Handles g operator other input second again → sent.status ≢ 503 → again.status ≢ 503 → again ≡ sent
+own_replies g laws once own operator input code one other first second sent again reading agree by_one by_other asks
+    handles handled done ended =
     let alike = same_bearer laws operator input code one other by_one by_other in
-    let again = asked_alike operator input (code_under one) (code_under other) (Ok (Read reading)) alike asks in
+    let asks_again = asked_alike operator input (code_under one) (code_under other) (Ok (Read reading)) alike asks in
     let is = own_asked laws own operator input code one (Read reading) by_one asks in
-    told_reading g operator input other reading second told once again deal ended
+    reading_sent g operator input other reading second again once asks_again handled ended
     ∙ sym (own_rows one other code reading is agree)
-    ∙ sym (told_reading g operator input one reading first sent once asks deals done)
+    ∙ sym (reading_sent g operator input one reading first sent once asks handles done)

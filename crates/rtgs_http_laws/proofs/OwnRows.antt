@@ -11,14 +11,14 @@ use Rattle.rtgs_book.specs.Lookup.{order_named, participant_of, is_order_named}
 use Rattle.rtgs_book.specs.Queue.{queue}
 use Rattle.rtgs_book.specs.declared.book.Book.{Book}
 use Rattle.rtgs_book.specs.declared.order.Order.{Order}
-use Rattle.rtgs_desk.specs.Readings.{account_told, queue_told, order_told}
+use Rattle.rtgs_desk.specs.Readings.{account_answer, queue_answer, order_answer}
 use Rattle.rtgs_desk_texts.specs.Written.{statement_wanted}
 use Rattle.rtgs_http_requests.specs.Access.{IsReadingOf}
 use Rattle.rtgs_book.specs.declared.reading.Reading.{Reading}
 use Rattle.rtgs_book.specs.declared.reading.Reading.TheVariants as reading
 use Rattle.rtgs_statements.specs.Records.{is_posting_of, is_order_of, is_posted_on, is_ordered_on}
 use Rattle.rtgs_http_laws.specs.Own.{AgreeFor, concerns, is_posted_to}
-use Rattle.rtgs_http_banks.specs.Sayings.{reading_message}
+use Rattle.rtgs_http_banks.specs.ReplyMessages.{reading_message}
 use Rattle.rtgs_lists.proofs.Bools.{and_left, and_right, or_left_false, or_right_false}
 
 or_left : (a b : Bool) → a ≡ true → (a || b) ≡ true
@@ -120,17 +120,17 @@ named_alike one other code reference agree =
     one.orders other.orders agree.orders
 
 order_alike : (one other : Book) (code reference : List ℕ) → AgreeFor code one other
-    → order_told one code reference ≡ order_told other code reference
+    → order_answer one code reference ≡ order_answer other code reference
 order_alike one other code reference agree = rw (agree.participant, named_alike one other code reference agree) refl
 
 account_alike : (one other : Book) (code : List ℕ) → AgreeFor code one other
-    → account_told one code ≡ account_told other code
+    → account_answer one code ≡ account_answer other code
 unfolding participant_of balance queue
 account_alike one other code agree =
     rw (agree.participant, balance_alike one other code agree, agree.day, queue_alike one other code agree) refl
 
 waiting_alike : (one other : Book) (code : List ℕ) → AgreeFor code one other
-    → queue_told one code ≡ queue_told other code
+    → queue_answer one code ≡ queue_answer other code
 waiting_alike one other code agree = rw (agree.participant, queue_alike one other code agree) refl
 
 statement_alike : (one other : Book) (code : List ℕ) (date : ℕ) → AgreeFor code one other

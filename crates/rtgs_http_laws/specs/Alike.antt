@@ -7,8 +7,8 @@ use Rattle.rtgs_desk.specs.Seen.{Seen}
 use Rattle.rtgs_http_replies.specs.Messages.{Message}
 
 -- the replies are one, and the desks, where they work, hold one book
-pub record EndAlike {K : Type 0} (g : Ghosts K) (one other : Seen K) (sent told : Message) : Type 0 where
-  pub reply : sent ≡ told
+pub record EndAlike {K : Type 0} (g : Ghosts K) (one other : Seen K) (sent again : Message) : Type 0 where
+  pub reply : sent ≡ again
   pub book : Book
   pub one_holds : g.has_failed one.keeper ≡ false → Holds g one book
   pub other_holds : g.has_failed other.keeper ≡ false → Holds g other book

@@ -6,7 +6,7 @@ use Rattle.rtgs_book.specs.Lookup.{participant_of}
 use Rattle.rtgs_book.specs.declared.book.Book.{Book}
 use Rattle.rtgs_book.specs.declared.order.Order.{Order}
 use Rattle.rtgs_book.specs.declared.posting.Posting.{Posting}
-use Rattle.rtgs_http_requests.specs.Access.{BearsKey}
+use Rattle.rtgs_http_requests.specs.Access.{CarriesKey}
 use Rattle.rtgs_ledger.specs.Keys.{code_under}
 
 abbrev pub is_posted_to : List ℕ → Posting → Bool
@@ -24,9 +24,9 @@ pub record AgreeFor (code : List ℕ) (one other : Book) : Type 0 where
   pub postings : filter (is_posted_to code) one.postings ≡ filter (is_posted_to code) other.postings
   pub orders : filter (concerns code) one.orders ≡ filter (concerns code) other.orders
 
--- the input bears the key that a participant has in the book, and that is not the operator's
+-- the input carries the key that a participant has in the book, and that is not the operator's
 pub record IsSentBy (operator : List ℕ) (book : Book) (code input : List ℕ) : Type 0 where
   pub digest : List ℕ
-  pub key : BearsKey input digest
+  pub key : CarriesKey input digest
   pub other : digest ≢ operator
   pub participant : code_under book digest ≡ Some code

@@ -7,11 +7,11 @@ ghost use Rattle.rtgs_book.specs.Run.{Run, is_accepted};
 ghost use Rattle.rtgs_book.specs.Soundness.{IsSound};
 ghost use Rattle.rtgs_book.specs.Step.{Step};
 ghost use Rattle.rtgs_desk.specs.Seen.{Seen};
-ghost use Rattle.rtgs_http_laws.specs.Again.{IsToldAgain};
+ghost use Rattle.rtgs_http_laws.specs.Again.{IsRepeatedBy};
 ghost use Rattle.rtgs_http_laws.specs.Alike.{EndAlike};
-ghost use Rattle.rtgs_http_banks.specs.Exchange.{Deals};
+ghost use Rattle.rtgs_http_banks.specs.Exchange.{Handles};
 ghost use Rattle.rtgs_http_laws.specs.Own.{AgreeFor, IsSentBy};
-ghost use Rattle.rtgs_http_banks.specs.Sayings.{reading_message};
+ghost use Rattle.rtgs_http_banks.specs.ReplyMessages.{reading_message};
 ghost use Rattle.rtgs_http_replies.specs.Messages.{Message};
 ghost use Rattle.rtgs_http_requests.specs.Access.{IsReadingOf};
 ghost use Rattle.rtgs_http_requests.specs.Exchange.{AsksFor};
@@ -34,15 +34,15 @@ pub fn participants_read_their_own_rows()
         → AgreeFor code one other → reading_message one reading ≡ reading_message other reading }
 {}
 
-/// So it is with a whole request: an input that bears a participant's key, and asks for a reading, has the same reply
+/// So it is with a whole request: an input that carries a participant's key, and asks for a reading, has the same reply
 /// from two such books. Set aside are replies with the status 503.
-pub fn participants_are_told_of_their_own_rows<K: Keeper>()
-    ensures { (operator input code : List ℕ) (one other : Book) (first second : Seen K) (sent told : Message)
+pub fn participants_are_shown_their_own_rows<K: Keeper>()
+    ensures { (operator input code : List ℕ) (one other : Book) (first second : Seen K) (sent again : Message)
         (reading : Reading) → AgreeFor code one other
         → IsSentBy operator one code input → IsSentBy operator other code input
         → AsksFor operator (code_under one) input (Ok (Asked.Read reading))
-        → Deals K.Keeper operator one input first sent → Deals K.Keeper operator other input second told
-        → sent.status ≢ 503 → told.status ≢ 503 → told ≡ sent }
+        → Handles K.Keeper operator one input first sent → Handles K.Keeper operator other input second again
+        → sent.status ≢ 503 → again.status ≢ 503 → again ≡ sent }
 {
     regions_are_determined();
     heads_are_determined();
@@ -54,25 +54,25 @@ pub fn participants_are_told_of_their_own_rows<K: Keeper>()
 /// A book, the operator's digest and an input have one reply and one book after it. Set aside are replies with the
 /// status 503: memory was wanting, the store failed, or a batch stopped for one of these.
 pub fn replies_are_determined<K: Keeper>()
-    ensures { (operator input : List ℕ) (old : Book) (one other : Seen K) (sent told : Message)
-        → Deals K.Keeper operator old input one sent → Deals K.Keeper operator old input other told
-        → sent.status ≢ 503 → told.status ≢ 503 → EndAlike K.Keeper one other sent told }
+    ensures { (operator input : List ℕ) (old : Book) (one other : Seen K) (sent again : Message)
+        → Handles K.Keeper operator old input one sent → Handles K.Keeper operator old input other again
+        → sent.status ≢ 503 → again.status ≢ 503 → EndAlike K.Keeper one other sent again }
 {
     step_is_determined();
     answers_are_determined();
 }
 
-/// What comes again is told as a repeat, whatever came between: where an input that bears a participant's key asked for
-/// an order or a withdrawal, and it was accepted, the same input asks for it again, is told the number that it was
-/// answered, and changes nothing. Set aside are replies with the status 503.
-pub fn requests_that_come_again_are_told_so<K: Keeper>()
+/// What comes again is answered as a repeat, whatever came between: where an input that carries a participant's key
+/// asked for an order or a withdrawal, and it was accepted, the same input asks for it again, is answered the same
+/// number , and changes nothing. Set aside are replies with the status 503.
+pub fn requests_that_come_again_are_repeats<K: Keeper>()
     ensures { (operator input code : List ℕ) (old mid later : Book) (command : Command) (reply : Reply)
-        (commands : List Command) (replies : List Reply) (desk : Seen K) (told : Message) → IsSound old
+        (commands : List Command) (replies : List Reply) (desk : Seen K) (sent : Message) → IsSound old
         → IsSentBy operator old code input → IsSentBy operator later code input
         → AsksFor operator (code_under old) input (Ok (Asked.Submit command))
         → is_accepted reply ≡ true → Step old command reply mid → Run mid commands replies later
-        → Deals K.Keeper operator later input desk told → told.status ≢ 503
-        → IsToldAgain K.Keeper later command (answered_number reply) desk told }
+        → Handles K.Keeper operator later input desk sent → sent.status ≢ 503
+        → IsRepeatedBy K.Keeper later command (answered_number reply) desk sent }
 {
     regions_are_determined();
     heads_are_determined();

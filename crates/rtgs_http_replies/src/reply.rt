@@ -95,7 +95,6 @@ impl Reply {
         }
     }
 
-    /// The status.
     pub fn status(&self) -> StatusCode
         ensures { result ≡ self.now.status }
     {
@@ -161,7 +160,7 @@ fn reason_of(status: u16) -> &'static str
     }
 }
 
-// What is told of a refusal or a fault.
+// The JSON value of a refusal or a fault.
 fn refusal_value(alloc: Global, code: u8, name: &str) -> Result<Value, AllocError>
     ensures { IfOk result (λ value. view value ≡ refusal_data code name.now) }
 {

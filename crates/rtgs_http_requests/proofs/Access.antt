@@ -30,7 +30,7 @@ use Rattle.rtgs_http_requests.specs.declared.admitted.Admitted.TheVariants as ad
 use Rattle.rtgs_http_requests.specs.declared.asked.Asked.{Asked}
 use Rattle.rtgs_http_requests.specs.declared.asked.Asked.TheVariants.{Submit, Batch, Read}
 use Rattle.rtgs_http_requests.specs.declared.http_fault.HttpFault.{HttpFault}
-use Rattle.rtgs_http_requests.specs.Access.{BearsKey, IsOwn, MayAsk}
+use Rattle.rtgs_http_requests.specs.Access.{CarriesKey, IsOwn, MayAsk}
 use Rattle.rtgs_http_requests.proofs.Decisions.{truth, amount}
 use Rattle.rtgs_http_requests.proofs.Stages.{after_size, after_caller, after_route, after_head, after_region}
 
@@ -39,7 +39,7 @@ value_of : {A B : Type 0} (Step : Result A HttpFault → Type 0) (next : A → R
     → Then Step next (Ok answer) → (value : A) × Step (Ok value) × next value (Ok answer)
 value_of {A} {B} Step next answer x = by x.0 x.1 x.2
   where
-    by : (told : Result A HttpFault) → Step told → Goes next (Ok answer) told
+    by : (outcome : Result A HttpFault) → Step outcome → Goes next (Ok answer) outcome
         → (value : A) × Step (Ok value) × next value (Ok answer)
     by (Ok value) step goes = (value, step, goes)
     by (Err fault) step goes = let no : ⊥ = cc goes in absurd no
@@ -72,8 +72,8 @@ batch_own caller body (Submit command) x = absurd x
 batch_own caller body (Batch sender rows) x = x.0
 batch_own caller body (Read read) x = absurd x
 
-abbrev plainly : Asked → Data → Answer → Type 0
-plainly asked value = Then (FindsContent (λ (_ : Unit {0}) given. HasNothing given) value)
+abbrev without_fields : Asked → Data → Answer → Type 0
+without_fields asked value = Then (FindsContent (λ (_ : Unit {0}) given. HasNothing given) value)
     (λ (_ : Unit {0}) (answer : Answer). answer ≡ Ok asked)
 
 bank_own : (route : BankRoute) (caller parameter body : List ℕ) (asked : Asked)
@@ -87,7 +87,7 @@ bank_own SendOrder caller parameter body asked x =
 bank_own WithdrawOrder caller parameter body asked x =
     let r = value_of (SpellsReference parameter) (λ reference. AsksPlainly body
     (Submit (command.Withdraw caller reference))) asked x in
-    let v = value_of (ReadsJson body) (plainly (Submit (command.Withdraw caller r.0))) asked r.2 in
+    let v = value_of (ReadsJson body) (without_fields (Submit (command.Withdraw caller r.0))) asked r.2 in
     let w = value_of (FindsContent (λ (_ : Unit {0}) given. HasNothing given) v.0)
     (λ (_ : Unit {0}) (answer : Answer). answer ≡ Ok (Submit (command.Withdraw caller r.0))) asked v.2 in
     same_own caller asked (Submit (command.Withdraw caller r.0)) w.2 refl
@@ -129,14 +129,14 @@ keyed operator code_of (Bank route) digest caller parameter body asked e means =
 
 pub own_alone : (operator : List ℕ) (code_of : CodeOf) (input : List ℕ) (asked : Asked)
     → AsksFor operator code_of input (Ok asked)
-    → (digest : List ℕ) × BearsKey input digest × MayAsk operator code_of digest asked
+    → (digest : List ℕ) × CarriesKey input digest × MayAsk operator code_of digest asked
 own_alone operator code_of input asked x =
     let parts = value_of (HasRegion input) (after_region operator code_of) asked x in
     let read = value_of (HasHead parts.0.0) (after_head operator code_of parts.0.1) asked parts.2 in
     let found = value_of (HasRoute read.0.0) (after_route operator code_of parts.0.1 read.0.0 read.0.1) asked read.2 in
     let caller = value_of (HasCaller operator code_of found.0.0 read.0.0)
     (after_caller read.0.0 read.0.1 parts.0.1 found.0.1) asked found.2 in
-    let size = value_of (λ told. told ≡ body_length (is_post read.0.0.method) read.0.1)
+    let size = value_of (λ outcome. outcome ≡ body_length (is_post read.0.0.method) read.0.1)
     (after_size parts.0.1 found.0.1 caller.0) asked caller.2 in
     let body = value_of (HasBody parts.0.1 size.0) (λ body. Means caller.0 found.0.1 body) asked size.2 in
     by parts.0.0 parts.0.1 found.0.1 body.0 read.0.0 read.0.1 found.0.0 caller.0 caller.1.0 caller.1.1 caller.1.2 body.2
@@ -147,7 +147,7 @@ own_alone operator code_of input asked x =
         → Ok caller ≡ caller_under operator code_of route key
         → Means caller parameter body (Ok asked) → HasRegion input (Ok (region, rest))
         → HasHead region (Ok (head, declared))
-        → (digest : List ℕ) × BearsKey input digest × MayAsk operator code_of digest asked
+        → (digest : List ℕ) × CarriesKey input digest × MayAsk operator code_of digest asked
     by region rest parameter body head declared route caller None has e means starts good = let no : ⊥ = cc e
         in absurd no
     by region rest parameter body head declared route caller (Some digest) has e means starts good = (

@@ -18,21 +18,21 @@ IsDetermined {A} Step = (one other : Result A HttpFault) → Step one → Step o
 
 -- a value of which this holds, or this fault where it holds of none, or a lack of memory
 abbrev pub Tells : {A : Type 0} → (A → Type 0) → HttpFault → Result A HttpFault → Type 0
-Tells {A} Holds bad told =
-    ((value : A) × (told ≡ Ok value) × Holds value)
-    ⊎ (((told ≡ Err bad) × ((value : A) → ¬ Holds value)) ⊎ (told ≡ Err OutOfMemory))
+Tells {A} Holds bad outcome =
+    ((value : A) × (outcome ≡ Ok value) × Holds value)
+    ⊎ (((outcome ≡ Err bad) × ((value : A) → ¬ Holds value)) ⊎ (outcome ≡ Err OutOfMemory))
 
-pub told_once : {A : Type 0} (Holds : A → Type 0) (bad : HttpFault)
+pub once_outcome : {A : Type 0} (Holds : A → Type 0) (bad : HttpFault)
     → ((one other : A) → Holds one → Holds other → one ≡ other)
     → (one other : Result A HttpFault) → Tells Holds bad one → Tells Holds bad other → Agree Equal one other
-told_once Holds bad same one other (inl x) (inl y) =
+once_outcome Holds bad same one other (inl x) (inl y) =
     inr (inr (x.1 ∙ ap (λ v. Ok v) (same x.0 y.0 x.2 y.2) ∙ sym y.1))
-told_once Holds bad same one other (inl x) (inr (inl y)) = absurd (y.1 x.0 x.2)
-told_once Holds bad same one other (inl x) (inr (inr e)) = inr (inl e)
-told_once Holds bad same one other (inr (inl x)) (inl y) = absurd (x.1 y.0 y.2)
-told_once Holds bad same one other (inr (inl x)) (inr (inl y)) = inr (inr (x.0 ∙ sym y.0))
-told_once Holds bad same one other (inr (inl x)) (inr (inr e)) = inr (inl e)
-told_once Holds bad same one other (inr (inr e)) _ = inl e
+once_outcome Holds bad same one other (inl x) (inr (inl y)) = absurd (y.1 x.0 x.2)
+once_outcome Holds bad same one other (inl x) (inr (inr e)) = inr (inl e)
+once_outcome Holds bad same one other (inr (inl x)) (inl y) = absurd (x.1 y.0 y.2)
+once_outcome Holds bad same one other (inr (inl x)) (inr (inl y)) = inr (inr (x.0 ∙ sym y.0))
+once_outcome Holds bad same one other (inr (inl x)) (inr (inr e)) = inr (inl e)
+once_outcome Holds bad same one other (inr (inr e)) _ = inl e
 
 -- one step and then the next: where each is determined, so is the whole
 pub then_once : {A B : Type 0} (R : Result B HttpFault → Result B HttpFault → Type 0)
@@ -42,7 +42,7 @@ pub then_once : {A B : Type 0} (R : Result B HttpFault → Result B HttpFault �
     → (one other : Result B HttpFault) → Then Step next one → Then Step next other → Agree R one other
 then_once {A} {B} R same Step next once go one other x y = by x.0 y.0 (once x.0 y.0 x.1 y.1) x.2 y.2
   where
-    both : (told : Result A HttpFault) → Goes next one told → Goes next other told → Agree R one other
+    both : (outcome : Result A HttpFault) → Goes next one outcome → Goes next other outcome → Agree R one other
     both (Ok value) p q = go value one other p q
     both (Err bad) p q =
         inr (inr (subst (λ t. R t other) (sym p) (subst (λ t. R (Err bad) t) (sym q) (same bad))))
@@ -59,6 +59,6 @@ pub then_determined : {A B : Type 0} (Step : Result A HttpFault → Type 0) (nex
 then_determined {A} {B} Step next once go = then_once Equal (λ bad. refl) Step next once go
 
 -- an equation determines
-pub told_equal : {A : Type 0} (answer one other : Result A HttpFault) → one ≡ answer → other ≡ answer
+pub equal_outcome : {A : Type 0} (answer one other : Result A HttpFault) → one ≡ answer → other ≡ answer
     → Agree Equal one other
-told_equal answer one other p q = inr (inr (p ∙ sym q))
+equal_outcome answer one other p q = inr (inr (p ∙ sym q))

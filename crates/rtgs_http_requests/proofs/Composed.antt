@@ -25,27 +25,27 @@ use Rattle.rtgs_http_requests.specs.declared.plan.Plan.{Plan}
 -- the fault of a head is that of each input that starts with it
 pub head_fails : (operator region : List ℕ) (bad : HeadFault) → ReadsHead region (Err bad)
     → Plans operator region (Err (of_head bad))
-head_fails operator region head.BadHead told code_of input rest starts =
-    (Ok (region, rest), starts, (Err fault.BadHead, told, refl))
-head_fails operator region head.NoSuchRoute told code_of input rest starts =
-    (Ok (region, rest), starts, (Ok (told.0, told.1), told.2, (Err fault.NoSuchRoute, told.3, refl)))
-head_fails operator region head.OutOfMemory told code_of input rest starts = (Err fault.OutOfMemory, tt, refl)
+head_fails operator region head.BadHead parsed code_of input rest starts =
+    (Ok (region, rest), starts, (Err fault.BadHead, parsed, refl))
+head_fails operator region head.NoSuchRoute parsed code_of input rest starts =
+    (Ok (region, rest), starts, (Ok (parsed.0, parsed.1), parsed.2, (Err fault.NoSuchRoute, parsed.3, refl)))
+head_fails operator region head.OutOfMemory parsed code_of input rest starts = (Err fault.OutOfMemory, tt, refl)
 
 -- so is the fault of its key
 pub key_fails : (operator region : List ℕ) (read : Head) (bad : HttpFault) → ReadsHead region (Ok read)
     → LeadsToCaller operator read.route read.key (Err bad) → Plans operator region (Err bad)
-key_fails operator region read bad told leads code_of input rest starts = (
+key_fails operator region read bad parsed leads code_of input rest starts = (
   Ok (region, rest),
   starts,
   (
-    Ok (told.0, told.1),
-    told.2,
+    Ok (parsed.0, parsed.1),
+    parsed.2,
     (
       Ok (read.route, read.parameter.now),
-      told.3.route,
+      parsed.3.route,
       (
         Err bad,
-        (read.key, told.3.key, sym (leads code_of)),
+        (read.key, parsed.3.key, sym (leads code_of)),
         refl,
       ),
     ),
@@ -60,17 +60,17 @@ led operator read (admission.LookUp route digest) code_of leads = leads.3 code_o
 
 abbrev behind : Bool → Option ℕ → List ℕ → List ℕ → Admitted → Answer → Type 0
 behind posts length parameter rest caller =
-    Then (λ told. told ≡ body_length posts length) (λ size.
+    Then (λ parsed. parsed ≡ body_length posts length) (λ size.
     Then (HasBody rest size) (λ body.
     Means caller parameter body))
 
 same_behind : (posts other : Bool) (length declared : Option ℕ) (parameter rest : List ℕ)
-    (told : Result Admitted HttpFault) (answer : Answer)
-    → posts ≡ other → length ≡ declared → Goes (behind posts length parameter rest) answer told
-    → Goes (behind other declared parameter rest) answer told
-same_behind posts other length declared parameter rest told answer p l goes =
-    let P : Bool → Type 0 = λ b. Goes (behind b length parameter rest) answer told in
-    let Q : Option ℕ → Type 0 = λ n. Goes (behind other n parameter rest) answer told in
+    (parsed : Result Admitted HttpFault) (answer : Answer)
+    → posts ≡ other → length ≡ declared → Goes (behind posts length parameter rest) answer parsed
+    → Goes (behind other declared parameter rest) answer parsed
+same_behind posts other length declared parameter rest parsed answer p l goes =
+    let P : Bool → Type 0 = λ b. Goes (behind b length parameter rest) answer parsed in
+    let Q : Option ℕ → Type 0 = λ n. Goes (behind other n parameter rest) answer parsed in
     subst Q l (subst P p goes)
 
 -- what is asked under a plan is asked by each input that starts with its region
@@ -78,21 +78,22 @@ pub planned : (operator region : List ℕ) (read : Head) (plan : Plan) → Reads
     → LeadsToCaller operator read.route read.key (Ok plan.admission)
     → plan.parameter.now ≡ read.parameter.now → plan.posts ≡ read.posts → plan.length ≡ read.length
     → Plans operator region (Ok plan)
-planned operator region read plan told leads parameter posts length code_of input rest answer starts after =
+planned operator region read plan parsed leads parameter posts length code_of input rest answer starts after =
     let P : List ℕ → Type 0 = λ p. Goes (behind plan.posts plan.length p rest) answer after.0 in
-    let goes = same_behind plan.posts (is_post told.0.method) plan.length told.1 read.parameter.now rest after.0 answer
-    (posts ∙ told.3.posts) (length ∙ told.3.length) (subst P parameter after.2) in (
+    let goes =
+    same_behind plan.posts (is_post parsed.0.method) plan.length parsed.1 read.parameter.now rest after.0 answer
+    (posts ∙ parsed.3.posts) (length ∙ parsed.3.length) (subst P parameter after.2) in (
       Ok (region, rest),
       starts,
       (
-        Ok (told.0, told.1),
-        told.2,
+        Ok (parsed.0, parsed.1),
+        parsed.2,
         (
           Ok (read.route, read.parameter.now),
-          told.3.route,
+          parsed.3.route,
           (
             after.0,
-            (read.key, told.3.key, after.1 ∙ sym (led operator read plan.admission code_of leads)),
+            (read.key, parsed.3.key, after.1 ∙ sym (led operator read plan.admission code_of leads)),
             goes,
           ),
         ),
@@ -102,19 +103,19 @@ planned operator region read plan told leads parameter posts length code_of inpu
 -- where a key leaves its bearer to be looked up, each input that starts with the region does
 pub looked_up : (operator region : List ℕ) (read : Head) (known : Admission) → ReadsHead region (Ok read)
     → LeadsToCaller operator read.route read.key (Ok known) → MayLookUp operator region known
-looked_up operator region read (admission.Operator route) told leads = tt
-looked_up operator region read (admission.LookUp route digest) told leads = λ input rest starts. record {
+looked_up operator region read (admission.Operator route) parsed leads = tt
+looked_up operator region read (admission.LookUp route digest) parsed leads = λ input rest starts. record {
   region = region;
   rest = rest;
-  head = told.0;
-  declared = told.1;
+  head = parsed.0;
+  declared = parsed.1;
   route = route;
   parameter = read.parameter.now;
   digest = digest;
   starts = starts;
-  good = told.2;
-  found = subst (λ (r : Route). routed told.0.method told.0.target ≡ Some (r, read.parameter.now)) leads.0
-      told.3.route;
-  key = subst (λ (k : Option (List ℕ)). HasKey (fields_of told.0) k) leads.1 told.3.key;
+  good = parsed.2;
+  found = subst (λ (r : Route). routed parsed.0.method parsed.0.target ≡ Some (r, read.parameter.now)) leads.0
+      parsed.3.route;
+  key = subst (λ (k : Option (List ℕ)). HasKey (fields_of parsed.0) k) leads.1 parsed.3.key;
   other = leads.2;
 }

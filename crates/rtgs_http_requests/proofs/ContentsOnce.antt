@@ -17,7 +17,7 @@ use Rattle.rtgs_http_requests.specs.Meaning.{IsPostingOf, SpellsCredit}
 use Rattle.rtgs_http_requests.specs.declared.asked.Asked.TheVariants.{Submit}
 use Rattle.rtgs_http_requests.specs.declared.http_fault.HttpFault.{HttpFault}
 use Rattle.rtgs_http_requests.specs.declared.http_fault.HttpFault.TheVariants as fault
-use Rattle.rtgs_http_requests.proofs.Agreement.{IsDetermined, Tells, told_once, told_equal, then_determined}
+use Rattle.rtgs_http_requests.proofs.Agreement.{IsDetermined, Tells, once_outcome, equal_outcome, then_determined}
 use Rattle.rtgs_http_requests.proofs.Decisions.{truth, amount, credit, posting}
 use Rattle.rtgs_http_requests.proofs.Lower.{LowerLaws}
 
@@ -26,8 +26,8 @@ use Rattle.rtgs_http_requests.proofs.Lower.{LowerLaws}
 abbrev Spells : List ℕ → Data → Type 0
 Spells body value = IsUtf8 body × (read body ≡ Some value)
 
-tells_json : (body : List ℕ) (told : Result Data HttpFault) → ReadsJson body told
-    → Tells (Spells body) fault.BadJson told
+tells_json : (body : List ℕ) (outcome : Result Data HttpFault) → ReadsJson body outcome
+    → Tells (Spells body) fault.BadJson outcome
 tells_json body (Ok value) x = inl (value, refl, x)
 tells_json body (Err fault.BadJson) none = inr (inl (refl, λ value has. let no : ⊥ = cc (has.1, none has.0) in no))
 tells_json body (Err fault.OutOfMemory) x = inr (inr refl)
@@ -39,13 +39,14 @@ one_value body one other x y =
     cc
 
 pub json_once : (body : List ℕ) → IsDetermined (ReadsJson body)
-json_once body one other x y = told_once (Spells body) fault.BadJson (one_value body) one other (tells_json body one x)
+json_once body one other x y = once_outcome (Spells body) fault.BadJson (one_value body) one other
+    (tells_json body one x)
     (tells_json body other y)
 
 -- ---- the content of a value
 
-tells_content : {A : Type 0} (Has : A → Data → Type 0) (value : Data) (told : Result A HttpFault)
-    → FindsContent Has value told → Tells (λ content. Has content value) fault.WrongFields told
+tells_content : {A : Type 0} (Has : A → Data → Type 0) (value : Data) (outcome : Result A HttpFault)
+    → FindsContent Has value outcome → Tells (λ content. Has content value) fault.WrongFields outcome
 tells_content Has value (Ok content) x = inl (content, refl, x)
 tells_content Has value (Err fault.WrongFields) none = inr (inl (refl, none))
 tells_content Has value (Err _) x = absurd x
@@ -54,7 +55,7 @@ pub content_once : {A : Type 0} (Has : A → Data → Type 0)
     → ((value : Data) (one other : A) → Has one value → Has other value → one ≡ other) → (value : Data)
     → IsDetermined (FindsContent Has value)
 content_once Has same value one other x y =
-    told_once (λ content. Has content value) fault.WrongFields (same value) one other (tells_content Has value one x)
+    once_outcome (λ content. Has content value) fault.WrongFields (same value) one other (tells_content Has value one x)
     (tells_content Has value other y)
 
 same_three : {A B C : Type 0} (one other : A × B × C) → one.0 ≡ other.0 → one.1 ≡ other.1 → one.2 ≡ other.2
@@ -124,32 +125,32 @@ reference_once text one other x y = by (truth (is_reference text))
   where
     by : IsReference text ⊎ (¬ IsReference text) → (one ≡ Err fault.OutOfMemory)
         ⊎ ((other ≡ Err fault.OutOfMemory) ⊎ (one ≡ other))
-    by (inl good) = told_equal _ one other (x.found good) (y.found good)
-    by (inr bad) = told_equal _ one other (x.refused bad) (y.refused bad)
+    by (inl good) = equal_outcome _ one other (x.found good) (y.found good)
+    by (inr bad) = equal_outcome _ one other (x.refused bad) (y.refused bad)
 
 abbrev IsDateOf : List ℕ → ℕ → Type 0
 IsDateOf text date = IsBusinessDate date × (text ≡ date_text date)
 
-tells_date : (text : List ℕ) (told : Result ℕ HttpFault) → SpellsDate text told
-    → Tells (IsDateOf text) (fault.Form BadDate) told
+tells_date : (text : List ℕ) (outcome : Result ℕ HttpFault) → SpellsDate text outcome
+    → Tells (IsDateOf text) (fault.Form BadDate) outcome
 tells_date text (Ok date) x = inl (date, refl, x)
 tells_date text (Err (fault.Form BadDate)) none = inr (inl (refl, λ date has. none date has.0 has.1))
 tells_date text (Err _) x = absurd x
 
 pub date_once : LowerLaws → (text : List ℕ) → IsDetermined (SpellsDate text)
 date_once laws text one other x y =
-    told_once (IsDateOf text) (fault.Form BadDate) (λ a b p q. laws.dates a b p.0 q.0 (sym p.1 ∙ q.1)) one other
+    once_outcome (IsDateOf text) (fault.Form BadDate) (λ a b p q. laws.dates a b p.0 q.0 (sym p.1 ∙ q.1)) one other
     (tells_date text one x) (tells_date text other y)
 
--- the answer is this one, whatever the step before told
+-- the answer is this one, whatever the outcome of the step before
 pub equal_once : {A B : Type 0} (answer : A → Result B HttpFault) (value : A)
-    → IsDetermined (λ (told : Result B HttpFault). told ≡ answer value)
-equal_once answer value one other x y = told_equal (answer value) one other x y
+    → IsDetermined (λ (outcome : Result B HttpFault). outcome ≡ answer value)
+equal_once answer value one other x y = equal_outcome (answer value) one other x y
 
 due_once : LowerLaws → (text : Option (List ℕ)) → IsDetermined (SpellsDue text)
-due_once laws None one other x y = told_equal _ one other x y
+due_once laws None one other x y = equal_outcome _ one other x y
 due_once laws (Some text) one other x y =
-    then_determined (SpellsDate text) (λ date (told : Result (Option ℕ) HttpFault). told ≡ Ok (Some date))
+    then_determined (SpellsDate text) (λ date (outcome : Result (Option ℕ) HttpFault). outcome ≡ Ok (Some date))
     (date_once laws text) (equal_once (λ date. Ok (Some date))) one other x y
 
 pub order_once : LowerLaws → (caller : List ℕ) (values : OrderValues) → IsDetermined (SpellsOrder caller values)
@@ -161,11 +162,11 @@ order_once laws caller values one other x y =
         ⊎ ((other ≡ Err fault.OutOfMemory) ⊎ (one ≡ other))
     by (inl r) (inl t) (inl a) =
         let answer : Option ℕ → Answer = λ due. Ok (Submit (command.Order caller values.0 values.1 values.2 due)) in
-        then_determined (SpellsDue values.3) (λ due (told : Answer). told ≡ answer due) (due_once laws values.3)
+        then_determined (SpellsDue values.3) (λ due (outcome : Answer). outcome ≡ answer due) (due_once laws values.3)
         (equal_once answer) one other (x.due r t a) (y.due r t a)
-    by (inl r) (inl t) (inr a) = told_equal _ one other (x.bad_amount r t a) (y.bad_amount r t a)
-    by (inl r) (inr t) _ = told_equal _ one other (x.bad_code r t) (y.bad_code r t)
-    by (inr r) _ _ = told_equal _ one other (x.bad_reference r) (y.bad_reference r)
+    by (inl r) (inl t) (inr a) = equal_outcome _ one other (x.bad_amount r t a) (y.bad_amount r t a)
+    by (inl r) (inr t) _ = equal_outcome _ one other (x.bad_code r t) (y.bad_code r t)
+    by (inr r) _ _ = equal_outcome _ one other (x.bad_reference r) (y.bad_reference r)
 
 pub posting_once : (values : List ℕ × List ℕ × ℤ) → IsDetermined (IsPostingOf values)
 posting_once values one other x y = by (truth (is_code values.0)) (truth (is_reference values.1)) (posting values.2)
@@ -173,16 +174,16 @@ posting_once values one other x y = by (truth (is_code values.0)) (truth (is_ref
     by : IsCode values.0 ⊎ (¬ IsCode values.0) → IsReference values.1 ⊎ (¬ IsReference values.1)
         → IsPostingAmount values.2 ⊎ (¬ IsPostingAmount values.2)
         → (one ≡ Err fault.OutOfMemory) ⊎ ((other ≡ Err fault.OutOfMemory) ⊎ (one ≡ other))
-    by (inl t) (inl r) (inl a) = told_equal _ one other (x.found t r a) (y.found t r a)
-    by (inl t) (inl r) (inr a) = told_equal _ one other (x.bad_amount t r a) (y.bad_amount t r a)
-    by (inl t) (inr r) _ = told_equal _ one other (x.bad_reference t r) (y.bad_reference t r)
-    by (inr t) _ _ = told_equal _ one other (x.bad_code t) (y.bad_code t)
+    by (inl t) (inl r) (inl a) = equal_outcome _ one other (x.found t r a) (y.found t r a)
+    by (inl t) (inl r) (inr a) = equal_outcome _ one other (x.bad_amount t r a) (y.bad_amount t r a)
+    by (inl t) (inr r) _ = equal_outcome _ one other (x.bad_reference t r) (y.bad_reference t r)
+    by (inr t) _ _ = equal_outcome _ one other (x.bad_code t) (y.bad_code t)
 
 pub credit_once : (values : List ℕ × ℕ) → IsDetermined (SpellsCredit values)
 credit_once values one other x y = by (truth (is_code values.0)) (credit values.1)
   where
     by : IsCode values.0 ⊎ (¬ IsCode values.0) → IsCredit values.1 ⊎ (¬ IsCredit values.1)
         → (one ≡ Err fault.OutOfMemory) ⊎ ((other ≡ Err fault.OutOfMemory) ⊎ (one ≡ other))
-    by (inl t) (inl a) = told_equal _ one other (x.found t a) (y.found t a)
-    by (inl t) (inr a) = told_equal _ one other (x.bad_amount t a) (y.bad_amount t a)
-    by (inr t) _ = told_equal _ one other (x.bad_code t) (y.bad_code t)
+    by (inl t) (inl a) = equal_outcome _ one other (x.found t a) (y.found t a)
+    by (inl t) (inr a) = equal_outcome _ one other (x.bad_amount t a) (y.bad_amount t a)
+    by (inr t) _ = equal_outcome _ one other (x.bad_code t) (y.bad_code t)

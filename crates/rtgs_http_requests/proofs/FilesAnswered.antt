@@ -75,10 +75,10 @@ unfolding kept
 file_answered alloc caller body none = no_fault batch.BadHeader (λ e. cc) by_header
   where
     no_fault : (bad : BatchFault) → bad ≢ batch.OutOfMemory → ¬ IsFaultOf body bad
-    no_fault bad other is = let told = none (Err (fault.Batch bad)) (is, other) in cc
+    no_fault bad other is = let clash = none (Err (fault.Batch bad)) (is, other) in cc
 
     no_file : (rows : List OrderRow) → length rows ≤ MOST_ROWS → ¬ IsOrderFile body rows
-    no_file rows few is = let told = none (Ok (Batch caller (kept alloc rows few))) (refl, is) in cc
+    no_file rows few is = let clash = none (Ok (Batch caller (kept alloc rows few))) (refl, is) in cc
 
     all_rows : (columns : Columns) (under : List CsvFields) → HasUnderHeader body columns under
         → (rows : List OrderRow) → BeginWith columns rows [] under → length rows ≤ MOST_ROWS → ⊥

@@ -30,7 +30,7 @@ use Rattle.rtgs_http_requests.specs.declared.asked.Asked.TheVariants.{Submit, Re
 use Rattle.rtgs_http_requests.specs.declared.http_fault.HttpFault.{HttpFault}
 use Rattle.rtgs_http_requests.specs.declared.http_fault.HttpFault.TheVariants as fault
 use Rattle.rtgs_book.specs.declared.reading.Reading.TheVariants as reading
-use Rattle.rtgs_http_requests.proofs.Answered.{then_answered, told_answered, value_answered}
+use Rattle.rtgs_http_requests.proofs.Answered.{then_answered, outcome_answered, value_answered}
 use Rattle.rtgs_http_requests.proofs.Decisions.{truth, amount, credit, posting}
 use Rattle.rtgs_http_requests.proofs.FilesAnswered.{file_answered}
 
@@ -46,12 +46,12 @@ no_json body (Some value) e none text = absurd (none value (text, e))
 
 json_answered : (body : List ℕ) → HasAnswer (ReadsJson body)
 json_answered body =
-    told_answered (Spells body) fault.BadJson (ReadsJson body) (λ e. cc) (λ value has. has)
+    outcome_answered (Spells body) fault.BadJson (ReadsJson body) (λ e. cc) (λ value has. has)
     (λ none text. no_json body (read body) refl none text)
 
 content_answered : {A : Type 0} (Has : A → Data → Type 0) (value : Data) → HasAnswer (FindsContent Has value)
 content_answered Has value =
-    told_answered (λ content. Has content value) fault.WrongFields (FindsContent Has value) (λ e. cc) (λ content has.
+    outcome_answered (λ content. Has content value) fault.WrongFields (FindsContent Has value) (λ e. cc) (λ content has.
     has)
     (λ none. none)
 
@@ -69,8 +69,8 @@ reference_answered : (text : List ℕ) → HasAnswer (SpellsReference text)
 reference_answered text none = by (truth (is_reference text))
   where
     by : ¬ (IsReference text ⊎ (¬ IsReference text))
-    by (inl good) = let told = none (Ok text) (record { found = λ _. refl; refused = λ bad. absurd (bad good) }) in cc
-    by (inr bad) = let told = none (Err (fault.Form BadReference))
+    by (inl good) = let clash = none (Ok text) (record { found = λ _. refl; refused = λ bad. absurd (bad good) }) in cc
+    by (inr bad) = let clash = none (Err (fault.Form BadReference))
         (record { found = λ good. absurd (bad good); refused = λ _. refl }) in cc
 
 abbrev IsDateOf : List ℕ → ℕ → Type 0
@@ -78,13 +78,13 @@ IsDateOf text date = IsBusinessDate date × (text ≡ date_text date)
 
 date_answered : (text : List ℕ) → HasAnswer (SpellsDate text)
 date_answered text =
-    told_answered (IsDateOf text) (fault.Form BadDate) (SpellsDate text) (λ e. cc) (λ date has. has)
+    outcome_answered (IsDateOf text) (fault.Form BadDate) (SpellsDate text) (λ e. cc) (λ date has. has)
     (λ none date is e. none date (is, e))
 
 due_answered : (text : Option (List ℕ)) → HasAnswer (SpellsDue text)
 due_answered None = value_answered None
 due_answered (Some text) =
-    then_answered (SpellsDate text) (λ date (told : Result (Option ℕ) HttpFault). told ≡ Ok (Some date))
+    then_answered (SpellsDate text) (λ date (outcome : Result (Option ℕ) HttpFault). outcome ≡ Ok (Some date))
     (date_answered text) (λ date. value_answered (Some date))
 
 order_answered : (caller : List ℕ) (values : OrderValues) → HasAnswer (SpellsOrder caller values)
@@ -94,7 +94,7 @@ order_answered caller values none = by (truth (is_reference values.0)) (truth (i
         → IsAmount values.2 ⊎ (¬ IsAmount values.2) → ⊥
     by (inl r) (inl t) (inl a) =
         let order : Option ℕ → Asked = λ due. Submit (command.Order caller values.0 values.1 values.2 due) in
-        then_answered (SpellsDue values.3) (λ due (told : Answer). told ≡ Ok (order due)) (due_answered values.3)
+        then_answered (SpellsDue values.3) (λ due (outcome : Answer). outcome ≡ Ok (order due)) (due_answered values.3)
         (λ due. value_answered (order due)) (λ answer is. none answer (record {
           due = λ _ _ _. is;
           bad_reference = λ x. absurd (x r);
@@ -102,7 +102,7 @@ order_answered caller values none = by (truth (is_reference values.0)) (truth (i
           bad_amount = λ _ _ x. absurd (x a);
         }))
     by (inl r) (inl t) (inr a) =
-        let told = none (Err (fault.Form BadAmount)) (record {
+        let clash = none (Err (fault.Form BadAmount)) (record {
           due = λ _ _ x. absurd (a x);
           bad_reference = λ x. absurd (x r);
           bad_code = λ _ x. absurd (x t);
@@ -110,7 +110,7 @@ order_answered caller values none = by (truth (is_reference values.0)) (truth (i
         }) in
         cc
     by (inl r) (inr t) _ =
-        let told = none (Err (fault.Form BadCode)) (record {
+        let clash = none (Err (fault.Form BadCode)) (record {
           due = λ _ x _. absurd (t x);
           bad_reference = λ x. absurd (x r);
           bad_code = λ _ _. refl;
@@ -118,7 +118,7 @@ order_answered caller values none = by (truth (is_reference values.0)) (truth (i
         }) in
         cc
     by (inr r) _ _ =
-        let told = none (Err (fault.Form BadReference)) (record {
+        let clash = none (Err (fault.Form BadReference)) (record {
           due = λ x _ _. absurd (r x);
           bad_reference = λ _. refl;
           bad_code = λ x _. absurd (r x);
@@ -132,7 +132,7 @@ posting_answered values none = by (truth (is_code values.0)) (truth (is_referenc
     by : IsCode values.0 ⊎ (¬ IsCode values.0) → IsReference values.1 ⊎ (¬ IsReference values.1)
         → IsPostingAmount values.2 ⊎ (¬ IsPostingAmount values.2) → ⊥
     by (inl t) (inl r) (inl a) =
-        let told = none (Ok (Submit (command.Post values.0 values.1 values.2))) (record {
+        let clash = none (Ok (Submit (command.Post values.0 values.1 values.2))) (record {
           found = λ _ _ _. refl;
           bad_code = λ x. absurd (x t);
           bad_reference = λ _ x. absurd (x r);
@@ -140,7 +140,7 @@ posting_answered values none = by (truth (is_code values.0)) (truth (is_referenc
         }) in
         cc
     by (inl t) (inl r) (inr a) =
-        let told = none (Err (fault.Form BadAmount)) (record {
+        let clash = none (Err (fault.Form BadAmount)) (record {
           found = λ _ _ x. absurd (a x);
           bad_code = λ x. absurd (x t);
           bad_reference = λ _ x. absurd (x r);
@@ -148,7 +148,7 @@ posting_answered values none = by (truth (is_code values.0)) (truth (is_referenc
         }) in
         cc
     by (inl t) (inr r) _ =
-        let told = none (Err (fault.Form BadReference)) (record {
+        let clash = none (Err (fault.Form BadReference)) (record {
           found = λ _ x _. absurd (r x);
           bad_code = λ x. absurd (x t);
           bad_reference = λ _ _. refl;
@@ -156,7 +156,7 @@ posting_answered values none = by (truth (is_code values.0)) (truth (is_referenc
         }) in
         cc
     by (inr t) _ _ =
-        let told = none (Err (fault.Form BadCode)) (record {
+        let clash = none (Err (fault.Form BadCode)) (record {
           found = λ x _ _. absurd (t x);
           bad_code = λ _. refl;
           bad_reference = λ x _. absurd (t x);
@@ -169,21 +169,21 @@ credit_answered values none = by (truth (is_code values.0)) (credit values.1)
   where
     by : IsCode values.0 ⊎ (¬ IsCode values.0) → IsCredit values.1 ⊎ (¬ IsCredit values.1) → ⊥
     by (inl t) (inl a) =
-        let told = none (Ok (Submit (command.SetCredit values.0 values.1))) (record {
+        let clash = none (Ok (Submit (command.SetCredit values.0 values.1))) (record {
           found = λ _ _. refl;
           bad_code = λ x. absurd (x t);
           bad_amount = λ _ x. absurd (x a);
         }) in
         cc
     by (inl t) (inr a) =
-        let told = none (Err (fault.Form BadAmount)) (record {
+        let clash = none (Err (fault.Form BadAmount)) (record {
           found = λ _ x. absurd (a x);
           bad_code = λ x. absurd (x t);
           bad_amount = λ _ _. refl;
         }) in
         cc
     by (inr t) _ =
-        let told = none (Err (fault.Form BadCode)) (record {
+        let clash = none (Err (fault.Form BadCode)) (record {
           found = λ x _. absurd (t x);
           bad_code = λ _. refl;
           bad_amount = λ x _. absurd (t x);
@@ -198,24 +198,25 @@ plainly_answered body asked =
     body (λ _. value_answered asked)
 
 day_answered : (body : List ℕ) (asked : ℕ → Asked) → HasAnswer
-    (Then (AsksDay body) (λ date (told : Answer). told ≡ Ok (asked date)))
+    (Then (AsksDay body) (λ date (outcome : Answer). outcome ≡ Ok (asked date)))
 day_answered body asked =
-    then_answered (AsksDay body) (λ date (told : Answer). told ≡ Ok (asked date))
+    then_answered (AsksDay body) (λ date (outcome : Answer). outcome ≡ Ok (asked date))
     (spelt_answered HasDate (λ text. SpellsDate text) body date_answered) (λ date. value_answered (asked date))
 
 dated_answered : (parameter : List ℕ) (asked : ℕ → Asked) → HasAnswer
-    (Then (SpellsDate parameter) (λ date (told : Answer). told ≡ Ok (asked date)))
+    (Then (SpellsDate parameter) (λ date (outcome : Answer). outcome ≡ Ok (asked date)))
 dated_answered parameter asked =
-    then_answered (SpellsDate parameter) (λ date (told : Answer). told ≡ Ok (asked date)) (date_answered parameter)
+    then_answered (SpellsDate parameter) (λ date (outcome : Answer). outcome ≡ Ok (asked date))
+    (date_answered parameter)
     (λ date. value_answered (asked date))
 
 opening_answered : (values : List ℕ × Bool) → HasAnswer (SpellsOpening values)
 opening_answered (text, automatic) = dated_answered text (λ date. Submit (command.OpenDay date automatic))
 
 referred_answered : (parameter : List ℕ) (asked : List ℕ → Asked)
-    → HasAnswer (Then (SpellsReference parameter) (λ reference (told : Answer). told ≡ Ok (asked reference)))
+    → HasAnswer (Then (SpellsReference parameter) (λ reference (outcome : Answer). outcome ≡ Ok (asked reference)))
 referred_answered parameter asked =
-    then_answered (SpellsReference parameter) (λ reference (told : Answer). told ≡ Ok (asked reference))
+    then_answered (SpellsReference parameter) (λ reference (outcome : Answer). outcome ≡ Ok (asked reference))
     (reference_answered parameter)
     (λ reference. value_answered (asked reference))
 

@@ -25,7 +25,7 @@ use Rattle.rtgs_http_requests.specs.declared.asked.Asked.TheVariants.{Submit, Ba
 use Rattle.rtgs_http_requests.specs.declared.http_fault.HttpFault.{HttpFault}
 use Rattle.rtgs_http_requests.specs.declared.http_fault.HttpFault.TheVariants as fault
 use Rattle.rtgs_book.specs.declared.reading.Reading.TheVariants as reading
-use Rattle.rtgs_http_requests.proofs.Agreement.{Agree, Equal, IsDetermined, then_determined, told_equal}
+use Rattle.rtgs_http_requests.proofs.Agreement.{Agree, Equal, IsDetermined, then_determined, equal_outcome}
 use Rattle.rtgs_http_requests.proofs.ContentsOnce.{json_once, content_once, one_order, one_posting, one_credit}
 use Rattle.rtgs_http_requests.proofs.ContentsOnce.{one_date, one_opening, one_nothing, reference_once, date_once}
 use Rattle.rtgs_http_requests.proofs.ContentsOnce.{order_once, posting_once, credit_once, equal_once}
@@ -58,21 +58,21 @@ plainly_once body asked =
     (equal_once (λ (_ : Unit {0}). Ok asked))
 
 referred_once : (parameter : List ℕ) (answer : List ℕ → Answer)
-    → IsDetermined (Then (SpellsReference parameter) (λ reference (told : Answer). told ≡ answer reference))
+    → IsDetermined (Then (SpellsReference parameter) (λ reference (outcome : Answer). outcome ≡ answer reference))
 referred_once parameter answer =
-    then_determined (SpellsReference parameter) (λ reference (told : Answer). told ≡ answer reference)
+    then_determined (SpellsReference parameter) (λ reference (outcome : Answer). outcome ≡ answer reference)
     (reference_once parameter) (equal_once answer)
 
 dated_once : LowerLaws → (parameter : List ℕ) (answer : ℕ → Answer)
-    → IsDetermined (Then (SpellsDate parameter) (λ date (told : Answer). told ≡ answer date))
+    → IsDetermined (Then (SpellsDate parameter) (λ date (outcome : Answer). outcome ≡ answer date))
 dated_once laws parameter answer =
-    then_determined (SpellsDate parameter) (λ date (told : Answer). told ≡ answer date) (date_once laws parameter)
+    then_determined (SpellsDate parameter) (λ date (outcome : Answer). outcome ≡ answer date) (date_once laws parameter)
     (equal_once answer)
 
 day_once : LowerLaws → (body : List ℕ) (answer : ℕ → Answer)
-    → IsDetermined (Then (AsksDay body) (λ date (told : Answer). told ≡ answer date))
+    → IsDetermined (Then (AsksDay body) (λ date (outcome : Answer). outcome ≡ answer date))
 day_once laws body answer =
-    then_determined (AsksDay body) (λ date (told : Answer). told ≡ answer date)
+    then_determined (AsksDay body) (λ date (outcome : Answer). outcome ≡ answer date)
     (spelt_once HasDate (λ text. SpellsDate text) body one_date (date_once laws)) (equal_once answer)
 
 opening_once : LowerLaws → (values : List ℕ × Bool) → IsDetermined (SpellsOpening values)
@@ -118,8 +118,8 @@ bank_once laws WithdrawOrder caller parameter body one other x y =
 bank_once laws SendBatch caller parameter body one other x y = batch_once laws caller body one other x y
 bank_once laws ReadOrder caller parameter body one other x y =
     the_same one other (referred_once parameter (λ reference. Ok (Read (reading.Order caller reference))) one other x y)
-bank_once laws ReadAccount caller parameter body one other x y = the_same one other (told_equal _ one other x y)
-bank_once laws ReadQueue caller parameter body one other x y = the_same one other (told_equal _ one other x y)
+bank_once laws ReadAccount caller parameter body one other x y = the_same one other (equal_outcome _ one other x y)
+bank_once laws ReadQueue caller parameter body one other x y = the_same one other (equal_outcome _ one other x y)
 bank_once laws ReadStatement caller parameter body one other x y =
     the_same one other (dated_once laws parameter (λ date. Ok (Read (reading.Statement caller date))) one other x y)
 
@@ -135,7 +135,7 @@ operator_once laws Resolve parameter body = plainly_once body (Submit command.Re
 operator_once laws CutOff parameter body = day_once laws body (λ date. Ok (Submit (command.CutOff date)))
 operator_once laws CloseDay parameter body = day_once laws body (λ date. Ok (Submit (command.CloseDay date)))
 operator_once laws ReadReport parameter body = dated_once laws parameter (λ date. Ok (Read (reading.Report date)))
-operator_once laws ReadAccounts parameter body = told_equal (Ok (Read reading.Accounts))
+operator_once laws ReadAccounts parameter body = equal_outcome (Ok (Read reading.Accounts))
 
 pub meant_once : LowerLaws → (caller : Admitted) (parameter body : List ℕ) (one other : Answer)
     → Means caller parameter body one → Means caller parameter body other → Agree AreTheSame one other

@@ -15,7 +15,7 @@ after_size rest parameter caller size = Then (HasBody rest size) (λ body. Means
 
 abbrev pub after_caller : RequestHead → Option ℕ → List ℕ → List ℕ → Admitted → Answer → Type 0
 after_caller head declared rest parameter caller =
-    Then (λ told. told ≡ body_length (is_post head.method) declared) (after_size rest parameter caller)
+    Then (λ outcome. outcome ≡ body_length (is_post head.method) declared) (after_size rest parameter caller)
 
 abbrev pub after_route : List ℕ → CodeOf → List ℕ → RequestHead → Option ℕ → Route × List ℕ → Answer → Type 0
 after_route operator code_of rest head declared found =

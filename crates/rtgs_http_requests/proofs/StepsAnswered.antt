@@ -23,7 +23,7 @@ use Rattle.rtgs_http_requests.specs.declared.admitted.Admitted.{Admitted}
 use Rattle.rtgs_http_requests.specs.declared.admitted.Admitted.TheVariants as admitted
 use Rattle.rtgs_http_requests.specs.declared.http_fault.HttpFault.{HttpFault}
 use Rattle.rtgs_http_requests.specs.declared.http_fault.HttpFault.TheVariants as fault
-use Rattle.rtgs_http_requests.proofs.Answered.{then_answered, told_answered, equal_answered}
+use Rattle.rtgs_http_requests.proofs.Answered.{then_answered, outcome_answered, equal_answered}
 use Rattle.rtgs_http_requests.proofs.MeaningAnswered.{meaning_answered}
 use Rattle.rtgs_http_requests.proofs.Stages.{after_size, after_caller, after_route, after_head, after_region}
 
@@ -31,61 +31,61 @@ abbrev pub Outcome : List ℕ → Type 0
 Outcome input = ((region : List ℕ) × (rest : List ℕ) × StartsWith input region rest) ⊎ (IsTooLong input ⊎ IsOpen input)
 
 region_answered : (input : List ℕ) → Outcome input → HasAnswer (HasRegion input)
-region_answered input (inl x) none = let told = none (Ok (x.0, x.1)) x.2 in cc
-region_answered input (inr (inl long)) none = let told = none (Err fault.HeadTooLong) long in cc
-region_answered input (inr (inr unfinished)) none = let told = none (Err fault.Truncated) unfinished in cc
+region_answered input (inl x) none = let clash = none (Ok (x.0, x.1)) x.2 in cc
+region_answered input (inr (inl long)) none = let clash = none (Err fault.HeadTooLong) long in cc
+region_answered input (inr (inr unfinished)) none = let clash = none (Err fault.Truncated) unfinished in cc
 
 abbrev IsHeadOf : List ℕ → RequestHead × Option ℕ → Type 0
 IsHeadOf region read = IsGoodHead region read.0 read.1
 
 head_answered : (region : List ℕ) → HasAnswer (HasHead region)
 head_answered region =
-    told_answered (IsHeadOf region) fault.BadHead (HasHead region) (λ e. cc) (λ read has. has)
+    outcome_answered (IsHeadOf region) fault.BadHead (HasHead region) (λ e. cc) (λ read has. has)
     (λ none head declared. none (head, declared))
 
 route_answered : (head : RequestHead) → HasAnswer (HasRoute head)
 route_answered head none = by (routed head.method head.target) refl
   where
     by : (found : Option (Route × List ℕ)) → routed head.method head.target ≡ found → ⊥
-    by None e = let told = none (Err fault.NoSuchRoute) e in cc
-    by (Some found) e = let told = none (Ok found) e in cc
+    by None e = let clash = none (Err fault.NoSuchRoute) e in cc
+    by (Some found) e = let clash = none (Ok found) e in cc
 
 -- a caller is never a lack of memory
-known_told : (route : BankRoute) (code : Option (List ℕ)) → known route code ≢ Err fault.OutOfMemory
-known_told route None e = cc
-known_told route (Some code) e = cc
+known_takes_no_memory : (route : BankRoute) (code : Option (List ℕ)) → known route code ≢ Err fault.OutOfMemory
+known_takes_no_memory route None e = cc
+known_takes_no_memory route (Some code) e = cc
 
-caller_told : (operator : List ℕ) (code_of : CodeOf) (route : Route) (key : Option (List ℕ))
+caller_takes_no_memory : (operator : List ℕ) (code_of : CodeOf) (route : Route) (key : Option (List ℕ))
     → caller_under operator code_of route key ≢ Err fault.OutOfMemory
-caller_told operator code_of route None = λ e. cc
-caller_told operator code_of (Operator route) (Some digest) = by (bytes_eq digest operator)
+caller_takes_no_memory operator code_of route None = λ e. cc
+caller_takes_no_memory operator code_of (Operator route) (Some digest) = by (bytes_eq digest operator)
   where
     by : (same : Bool) → ◌≢◌ {A = Result Admitted HttpFault}
         (if same then Ok (admitted.Operator route) else Err fault.NoKey) (Err fault.OutOfMemory)
     by true e = cc
     by false e = cc
-caller_told operator code_of (Bank route) (Some digest) = by (bytes_eq digest operator)
+caller_takes_no_memory operator code_of (Bank route) (Some digest) = by (bytes_eq digest operator)
   where
     by : (same : Bool) → ◌≢◌ {A = Result Admitted HttpFault}
         (if same then Err fault.NoKey else known route (code_of digest)) (Err fault.OutOfMemory)
     by true e = cc
-    by false e = known_told route (code_of digest) e
+    by false e = known_takes_no_memory route (code_of digest) e
 
 caller_answered : (operator : List ℕ) (code_of : CodeOf) (route : Route) (head : RequestHead)
     → HasAnswer (HasCaller operator code_of route head)
 caller_answered operator code_of route head none = with None no_key
   where
     with : (key : Option (List ℕ)) → ¬ HasKey (fields_of head) key
-    with key has = caller_told operator code_of route key (none (caller_under operator code_of route key)
+    with key has = caller_takes_no_memory operator code_of route key (none (caller_under operator code_of route key)
         (key, has, refl))
 
     no_key : (key : List ℕ) → values_of (codes "desk-key") (fields_of head) ≡ key ∷ [] → ¬ IsKey key
     no_key key e is = with (Some _) (key, e, is, refl)
 
-length_told : (posts : Bool) (declared : Option ℕ) → body_length posts declared ≢ Err fault.OutOfMemory
-length_told false declared = λ e. cc
-length_told true None = λ e. cc
-length_told true (Some size) = by (nat_le size LONGEST_BODY)
+length_takes_no_memory : (posts : Bool) (declared : Option ℕ) → body_length posts declared ≢ Err fault.OutOfMemory
+length_takes_no_memory false declared = λ e. cc
+length_takes_no_memory true None = λ e. cc
+length_takes_no_memory true (Some size) = by (nat_le size LONGEST_BODY)
   where
     by : (fits : Bool) → ◌≢◌ {A = Result ℕ HttpFault} (if fits then Ok size else Err fault.BodyTooLong)
         (Err fault.OutOfMemory)
@@ -96,8 +96,8 @@ body_answered : (rest : List ℕ) (size : ℕ) → HasAnswer (HasBody rest size)
 body_answered rest size none = by (cases_lt (length rest) size)
   where
     by : ¬ ((length rest < size) ⊎ (size ≤ length rest))
-    by (inl short) = let told = none (Err fault.Truncated) short in cc
-    by (inr enough) = let told = none (Ok (take size rest)) (enough, refl) in cc
+    by (inl short) = let clash = none (Err fault.Truncated) short in cc
+    by (inr enough) = let clash = none (Ok (take size rest)) (enough, refl) in cc
 
 -- the steps from the length on, from the caller on, and so on
 size_on : Global → (rest parameter : List ℕ) (caller : Admitted) (size : ℕ)
@@ -109,8 +109,9 @@ size_on alloc rest parameter caller size =
 caller_on : Global → (head : RequestHead) (declared : Option ℕ) (rest parameter : List ℕ) (caller : Admitted)
     → HasAnswer (after_caller head declared rest parameter caller)
 caller_on alloc head declared rest parameter caller =
-    then_answered (λ told. told ≡ body_length (is_post head.method) declared) (after_size rest parameter caller)
-    (equal_answered (body_length (is_post head.method) declared) (length_told (is_post head.method) declared))
+    then_answered (λ outcome. outcome ≡ body_length (is_post head.method) declared) (after_size rest parameter caller)
+    (equal_answered (body_length (is_post head.method) declared)
+    (length_takes_no_memory (is_post head.method) declared))
     (size_on alloc rest parameter caller)
 
 route_on : Global → (operator : List ℕ) (code_of : CodeOf) (rest : List ℕ) (head : RequestHead) (declared : Option ℕ)

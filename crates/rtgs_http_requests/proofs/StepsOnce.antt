@@ -15,7 +15,7 @@ use Rattle.rtgs_http_requests.specs.Same.{AreTheSame}
 use Rattle.rtgs_http_requests.specs.declared.admitted.Admitted.{Admitted}
 use Rattle.rtgs_http_requests.specs.declared.http_fault.HttpFault.{HttpFault}
 use Rattle.rtgs_http_requests.specs.declared.http_fault.HttpFault.TheVariants as fault
-use Rattle.rtgs_http_requests.proofs.Agreement.{Agree, IsDetermined, Tells, told_once, told_equal, then_once}
+use Rattle.rtgs_http_requests.proofs.Agreement.{Agree, IsDetermined, Tells, once_outcome, equal_outcome, then_once}
 use Rattle.rtgs_http_requests.proofs.Lower.{LowerLaws}
 use Rattle.rtgs_http_requests.proofs.MeaningOnce.{meant_once}
 use Rattle.rtgs_http_requests.proofs.Stages.{after_size, after_caller, after_route, after_head, after_region}
@@ -44,15 +44,15 @@ region_once laws input (Err _) other x y = absurd x
 abbrev IsHeadOf : List ℕ → RequestHead × Option ℕ → Type 0
 IsHeadOf region read = IsGoodHead region read.0 read.1
 
-tells_head : (region : List ℕ) (told : Result (RequestHead × Option ℕ) HttpFault) → HasHead region told
-    → Tells (IsHeadOf region) fault.BadHead told
+tells_head : (region : List ℕ) (outcome : Result (RequestHead × Option ℕ) HttpFault) → HasHead region outcome
+    → Tells (IsHeadOf region) fault.BadHead outcome
 tells_head region (Ok read) x = inl (read, refl, x)
 tells_head region (Err fault.BadHead) none = inr (inl (refl, λ read. none read.0 read.1))
 tells_head region (Err _) x = absurd x
 
 head_once : LowerLaws → (region : List ℕ) → IsDetermined (HasHead region)
 head_once laws region one other x y =
-    told_once (IsHeadOf region) fault.BadHead
+    once_outcome (IsHeadOf region) fault.BadHead
     (λ a b p q. same_two a b (laws.heads region a.0 b.0 a.1 b.1 p q) (laws.lengths region a.0 b.0 a.1 b.1 p q))
     one other (tells_head region one x) (tells_head region other y)
 
@@ -65,8 +65,8 @@ no_route head found none some =
     let clash : ◌≡◌ {A = Option (Route × List ℕ)} None (Some found) = sym none ∙ some in
     cc
 
-tells_route : (head : RequestHead) (told : Result (Route × List ℕ) HttpFault) → HasRoute head told
-    → Tells (IsRouteOf head) fault.NoSuchRoute told
+tells_route : (head : RequestHead) (outcome : Result (Route × List ℕ) HttpFault) → HasRoute head outcome
+    → Tells (IsRouteOf head) fault.NoSuchRoute outcome
 tells_route head (Ok found) x = inl (found, refl, x)
 tells_route head (Err fault.NoSuchRoute) none = inr (inl (refl, λ found. no_route head found none))
 tells_route head (Err fault.OutOfMemory) x = inr (inr refl)
@@ -79,7 +79,7 @@ one_route head one other x y =
 
 route_once : (head : RequestHead) → IsDetermined (HasRoute head)
 route_once head one other x y =
-    told_once (IsRouteOf head) fault.NoSuchRoute (one_route head) one other (tells_route head one x)
+    once_outcome (IsRouteOf head) fault.NoSuchRoute (one_route head) one other (tells_route head one x)
     (tells_route head other y)
 
 caller_once : LowerLaws → (operator : List ℕ) (code_of : CodeOf) (route : Route) (head : RequestHead)
@@ -91,8 +91,8 @@ caller_once laws operator code_of route head one other x y =
 abbrev IsBodyOf : List ℕ → ℕ → List ℕ → Type 0
 IsBodyOf rest size body = (size ≤ length rest) × (body ≡ take size rest)
 
-tells_body : (rest : List ℕ) (size : ℕ) (told : Result (List ℕ) HttpFault) → HasBody rest size told
-    → Tells (IsBodyOf rest size) fault.Truncated told
+tells_body : (rest : List ℕ) (size : ℕ) (outcome : Result (List ℕ) HttpFault) → HasBody rest size outcome
+    → Tells (IsBodyOf rest size) fault.Truncated outcome
 tells_body rest size (Ok body) x = inl (body, refl, x)
 tells_body rest size (Err fault.Truncated) short = inr (inl (refl, λ body has. omega (arith, short, has.0)))
 tells_body rest size (Err fault.OutOfMemory) x = inr (inr refl)
@@ -100,7 +100,7 @@ tells_body rest size (Err _) x = absurd x
 
 body_once : (rest : List ℕ) (size : ℕ) → IsDetermined (HasBody rest size)
 body_once rest size one other x y =
-    told_once (IsBodyOf rest size) fault.Truncated (λ a b p q. p.1 ∙ sym q.1) one other (tells_body rest size one x)
+    once_outcome (IsBodyOf rest size) fault.Truncated (λ a b p q. p.1 ∙ sym q.1) one other (tells_body rest size one x)
     (tells_body rest size other y)
 
 fault_same : (bad : HttpFault) → AreTheSame (Err bad) (Err bad)
@@ -119,9 +119,9 @@ caller_on : LowerLaws → (head : RequestHead) (declared : Option ℕ) (rest par
     → after_caller head declared rest parameter caller one → after_caller head declared rest parameter caller other
     → Agree AreTheSame one other
 caller_on laws head declared rest parameter caller one other x y =
-    then_once AreTheSame fault_same (λ told. told ≡ body_length (is_post head.method) declared)
+    then_once AreTheSame fault_same (λ outcome. outcome ≡ body_length (is_post head.method) declared)
     (after_size rest parameter caller)
-    (told_equal (body_length (is_post head.method) declared)) (size_on laws rest parameter caller) one other x y
+    (equal_outcome (body_length (is_post head.method) declared)) (size_on laws rest parameter caller) one other x y
 
 route_on : LowerLaws → (operator : List ℕ) (code_of : CodeOf) (rest : List ℕ) (head : RequestHead) (declared : Option ℕ)
     (found : Route × List ℕ) (one other : Answer)

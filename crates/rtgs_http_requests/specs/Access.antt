@@ -41,7 +41,7 @@ IsOwn code (Batch sender rows) = sender ≡ code
 IsOwn code (Read read) = IsReadingOf code read
 
 -- The digest is that of the only key field of the input's head.
-pub record BearsKey (input digest : List ℕ) : Type 0 where
+pub record CarriesKey (input digest : List ℕ) : Type 0 where
   pub region : List ℕ
   pub rest : List ℕ
   pub head : RequestHead

@@ -38,8 +38,8 @@ HasRoute head (Err _) = ⊥
 
 -- the caller whom the route takes
 abbrev pub HasCaller : List ℕ → CodeOf → Route → RequestHead → Result Admitted HttpFault → Type 0
-HasCaller operator code_of route head told =
-    (key : Option (List ℕ)) × HasKey (fields_of head) key × (told ≡ caller_under operator code_of route key)
+HasCaller operator code_of route head outcome =
+    (key : Option (List ℕ)) × HasKey (fields_of head) key × (outcome ≡ caller_under operator code_of route key)
 
 -- the body of so many bytes, from what comes after the region
 abbrev pub HasBody : List ℕ → ℕ → Result (List ℕ) HttpFault → Type 0
@@ -55,6 +55,6 @@ AsksFor operator code_of input =
     Then (HasHead parts.0) (λ read.
     Then (HasRoute read.0) (λ found.
     Then (HasCaller operator code_of found.0 read.0) (λ caller.
-    Then (λ told. told ≡ body_length (is_post read.0.method) read.1) (λ size.
+    Then (λ outcome. outcome ≡ body_length (is_post read.0.method) read.1) (λ size.
     Then (HasBody parts.1 size) (λ body.
     Means caller found.1 body))))))

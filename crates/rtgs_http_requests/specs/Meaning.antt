@@ -32,9 +32,9 @@ abbrev pub Answer : Type 0
 Answer = Result Asked HttpFault
 
 -- the reference that a text is
-pub record SpellsReference (text : List ℕ) (told : Result (List ℕ) HttpFault) : Type 0 where
-  pub found : IsReference text → told ≡ Ok text
-  pub refused : ¬ IsReference text → told ≡ Err (fault.Form BadReference)
+pub record SpellsReference (text : List ℕ) (outcome : Result (List ℕ) HttpFault) : Type 0 where
+  pub found : IsReference text → outcome ≡ Ok text
+  pub refused : ¬ IsReference text → outcome ≡ Err (fault.Form BadReference)
 
 -- the date that a text is, weekends too
 abbrev pub SpellsDate : List ℕ → Result ℕ HttpFault → Type 0
@@ -44,8 +44,8 @@ SpellsDate text (Err _) = ⊥
 
 -- the due date that a text is, and none where there is no text
 abbrev pub SpellsDue : Option (List ℕ) → Result (Option ℕ) HttpFault → Type 0
-SpellsDue None told = told ≡ Ok None
-SpellsDue (Some text) told = Then (SpellsDate text) (λ date given. given ≡ Ok (Some date)) told
+SpellsDue None outcome = outcome ≡ Ok None
+SpellsDue (Some text) outcome = Then (SpellsDate text) (λ date given. given ≡ Ok (Some date)) outcome
 
 -- the order of a caller with these values, judged in this order
 pub record SpellsOrder (caller : List ℕ) (values : OrderValues) (answer : Answer) : Type 0 where

@@ -27,13 +27,13 @@ admitted_by code_of (admission.LookUp route digest) = known route (code_of diges
 -- what a caller asks for under a plan, where this comes behind the region
 abbrev pub AfterCaller : Plan → List ℕ → Admitted → Answer → Type 0
 AfterCaller plan rest caller =
-    Then (λ told. told ≡ body_length plan.posts plan.length) (λ size.
+    Then (λ outcome. outcome ≡ body_length plan.posts plan.length) (λ size.
     Then (HasBody rest size) (λ body.
     Means caller plan.parameter.now body))
 
 -- what is asked under a plan
 abbrev pub AfterHead : Plan → CodeOf → List ℕ → Answer → Type 0
-AfterHead plan code_of rest = Then (λ told. told ≡ admitted_by code_of plan.admission) (AfterCaller plan rest)
+AfterHead plan code_of rest = Then (λ outcome. outcome ≡ admitted_by code_of plan.admission) (AfterCaller plan rest)
 
 -- The plan, or the fault, is that of each input that starts with the region.
 abbrev pub Plans : List ℕ → List ℕ → Result Plan HttpFault → Type 0

@@ -32,7 +32,6 @@ pub enum HttpFault {
     Form(Lexical),
     /// The body is no order file.
     Batch(BatchFault),
-    /// Memory was refused.
     OutOfMemory,
 }
 

@@ -6,7 +6,7 @@ ghost use Rattle.rtgs_http_requests.specs.Meaning.{Answer};
 ghost use Rattle.rtgs_http_requests.specs.Same.{AreTheSame};
 ghost use Rattle.rtgs_http_requests.specs.Steps.{HasAnswer};
 ghost use Rattle.rtgs_http_requests.specs.declared.asked.Asked.{Asked};
-ghost use Rattle.rtgs_http_requests.specs.Access.{BearsKey, MayAsk};
+ghost use Rattle.rtgs_http_requests.specs.Access.{CarriesKey, MayAsk};
 ghost use Rattle.rtgs_http_requests.specs.declared.http_fault.HttpFault.{HttpFault};
 
 use rtgs_http_feeds::laws::{
@@ -23,7 +23,7 @@ use std::alloc::Global;
 pub fn participants_ask_for_their_own()
     ensures { (operator : List ℕ) (code_of : CodeOf) (input : List ℕ) (asked : Asked)
         → AsksFor operator code_of input (Ok asked)
-        → (digest : List ℕ) × BearsKey input digest × MayAsk operator code_of digest asked }
+        → (digest : List ℕ) × CarriesKey input digest × MayAsk operator code_of digest asked }
 {}
 
 /// An input asks for one thing, or has one fault, but that memory may be wanting.

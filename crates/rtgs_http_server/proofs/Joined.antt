@@ -11,7 +11,7 @@ use Rattle.rtgs_desk.specs.Seen.{Seen}
 use Rattle.rtgs_http_input.specs.Input.{OfInput}
 use Rattle.rtgs_http_input.specs.declared.reader_failed.ReaderFailed.{ReaderFailed}
 use Rattle.rtgs_http_replies.specs.Messages.{Message}
-use Rattle.rtgs_http_banks.specs.Dealings.{Makes, given}
+use Rattle.rtgs_http_banks.specs.Handling.{Makes, given}
 use Rattle.rtgs_http_banks.specs.Exchange.{Exchanges}
 use Rattle.rtgs_http_banks.specs.Serving.{Serves}
 use Rattle.rtgs_http_banks.specs.declared.served.Served.{Served}
@@ -55,16 +55,16 @@ module _ {K : Type 0} (g : Ghosts K) (operator : List ℕ) (old new : Seen K)
   exchanged input sent it honest working book before =
       let first = before.3 in
       let held = first.kept working in
-      let deals = it.deals honest first.last held in
-      let again = deals.works.0 in
-      let more = given deals.answer (length again) in
+      let handles = it.handles honest first.last held in
+      let again = handles.works.0 in
+      let more = given handles.answer (length again) in
       let run = led g book before.0 before.1 old first working (left first.last held) in
-      let asked : IsAsked operator first.last input deals.answer =
-      record { asks = deals.asks; allowed = deals.allowed } in (
+      let asked : IsAsked operator first.last input handles.answer =
+      record { asks = handles.asks; allowed = handles.allowed } in (
         before.0 ++ more,
         before.1 ++ again,
-        and_then before.2 first.last run input deals.answer again asked,
-        join book new before.0 more before.1 again first working deals.works.1,
+        and_then before.2 first.last run input handles.answer again asked,
+        join book new before.0 more before.1 again first working handles.works.1,
       )
 
   pub joined : (known before after : Option (List ℕ)) (served : Served)

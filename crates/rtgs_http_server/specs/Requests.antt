@@ -11,7 +11,7 @@ use Rattle.rtgs_desk.specs.Seen.{Seen}
 use Rattle.rtgs_http_requests.specs.Exchange.{AsksFor}
 use Rattle.rtgs_http_requests.specs.declared.asked.Asked.{Asked}
 use Rattle.rtgs_http_requests.specs.declared.http_fault.HttpFault.{HttpFault}
-use Rattle.rtgs_http_banks.specs.Dealings.{Makes, given}
+use Rattle.rtgs_http_banks.specs.Handling.{Makes, given}
 use Rattle.rtgs_http_banks.specs.Exchange.{IsAllowed}
 
 -- an input asks for this, as it may, under the operator's digest and the digests that the book's participants have

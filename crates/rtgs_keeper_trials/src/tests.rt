@@ -1,5 +1,6 @@
 //! Two desks that are given the same commands, ten thousand of them from a fixed random generator and those at the
 //! bounds of all forms; and disks in memory that fail, keepers that fail, and what is found then.
+mod answers;
 mod automatic_days;
 mod automatic_faults;
 mod boundaries;
@@ -18,6 +19,5 @@ mod runs;
 mod seen;
 mod store;
 mod stored_desk;
-mod told;
 mod trial;
 mod two_keepers;

@@ -96,7 +96,6 @@ not_posted : (found : Option Posting) (code reference : List ℕ) (cents : ℤ)
 not_posted None code reference cents = refl
 not_posted (Some p) code reference cents = refl
 
--- what was issued, by postings
 issued_by : (old new : Book) → new.postings ≡ old.postings → issued new ≡ issued old +ℤ pos 0
 unfolding issued
 issued_by old new same = ap (int_sum_by (λ (p : Posting). p.cents)) same ∙ omega (arith, ints)

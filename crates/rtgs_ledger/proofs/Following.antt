@@ -49,7 +49,7 @@ use Rattle.rtgs_ledger.specs.Kept.{IsPrepared, IsPreparedByItself, IsRefusedByIt
 use Rattle.rtgs_ledger.specs.Kinds.{IsQuiet, answers_its_kind}
 use Rattle.rtgs_ledger.proofs.Loading.{in_order}
 use Rattle.rtgs_ledger.proofs.Resolving.{LeavesParticipants, balanced_after, codes_stay}
-use Rattle.rtgs_ledger.proofs.Telling.{all_found}
+use Rattle.rtgs_ledger.proofs.Inputs.{all_found}
 use Rattle.rtgs_ledger.proofs.Whole as whole
 use Rattle.rtgs_ledger.proofs.Whole.{same_accounts}
 
@@ -441,7 +441,6 @@ quiet_repeats own rows quiet = (
   λ e. subst (λ (o : Answer). IsQuiet o rows) e quiet,
 )
 
--- a resolution that settled nothing
 is_nothing : (settled : Answer) → answers_its_kind command.Resolve settled ≡ true → resolution_of (Ok settled) ≡ None
     → settled ≡ answer.Nothing
 is_nothing (answer.Resolved mark count value) kind none = absurd (cc)

@@ -19,6 +19,6 @@ pub mod RecordLemmas
 pub mod Resolving
 pub mod Rooms
 pub mod Settling
-pub mod Telling
+pub mod Inputs
 pub mod Whole
 pub mod Withdrawing

@@ -274,25 +274,25 @@ module _ (r : Whole) (kept : IsKept (held_of r)) where
   pub is_today : (date : ℕ) → (if is_open r.day.phase then r.day.date else None) ≡ Some date → r.day.date ≡ Some date
   is_today date e = is_day (is_open r.day.phase) r.day.date date e
 
-  pub settles_is : (sender : List ℕ) (debtor : Account) (amount : ℕ)
-      → find (is_of sender) r.accounts.accounts ≡ Some debtor
-      → settles_at_once (book_of r) sender amount ≡ (is_empty (queued_numbers r.orders (code_of debtor)) &&
-      int_le (floor_at r.day.phase debtor.participant.credit) (debtor.balance -ℤ pos amount))
+  pub settles_is : (sender : List ℕ) (sending : Account) (amount : ℕ)
+      → find (is_of sender) r.accounts.accounts ≡ Some sending
+      → settles_at_once (book_of r) sender amount ≡ (is_empty (queued_numbers r.orders (code_of sending)) &&
+      int_le (floor_at r.day.phase sending.participant.credit) (sending.balance -ℤ pos amount))
   unfolding settles_at_once
-  settles_is sender debtor amount from =
+  settles_is sender sending amount from =
       rw (
-        floor_is r kept sender debtor from,
-        ← balance_at r kept sender debtor from,
+        floor_is r kept sender sending from,
+        ← balance_at r kept sender sending from,
         found_is sender
-            r.accounts.accounts debtor from,
+            r.accounts.accounts sending from,
         queued_none (book_of r) sender,
       ) refl
 
   -- the next order, where no test but the last refuses it
-  pub taken_now : (sender reference receiver : List ℕ) (amount date : ℕ) (due : Option ℕ) (debtor creditor : Account)
-      → find (is_of sender) r.accounts.accounts ≡ Some debtor → order_named (book_of r) sender reference ≡ None
+  pub taken_now : (sender reference receiver : List ℕ) (amount date : ℕ) (due : Option ℕ) (sending receiving : Account)
+      → find (is_of sender) r.accounts.accounts ≡ Some sending → order_named (book_of r) sender reference ≡ None
       → (if is_open r.day.phase then r.day.date else None) ≡ Some date
-      → find (is_of receiver) r.accounts.accounts ≡ Some creditor → bytes_eq sender receiver ≡ false
+      → find (is_of receiver) r.accounts.accounts ≡ Some receiving → bytes_eq sender receiver ≡ false
       → is_due_too_early (book_of r) due ≡ false → is_due_on_a_weekend due ≡ false
       → nat_le LARGEST_NUMBER (length r.orders) ≡ false → IsAmount amount
       → (not (settles_now (book_of r) sender amount due)
@@ -307,7 +307,7 @@ module _ (r : Whole) (kept : IsKept (held_of r)) where
         due = due;
         state = first_state due;
       })
-  taken_now sender reference receiver amount date due debtor creditor from unused day to apart later working few fits
+  taken_now sender reference receiver amount date due sending receiving from unused day to apart later working few fits
       room =
       let today_is : today (book_of r) ≡ date = ap (λ (d : Option ℕ). unwrap_or d 0)
       (is_day (is_open r.day.phase) r.day.date date day) in
@@ -321,8 +321,8 @@ module _ (r : Whole) (kept : IsKept (held_of r)) where
         due = due;
         state = first_state due;
       })
-      (is_taken (book_of r) sender reference receiver amount due (is_known r kept sender debtor from) unused
-      (open_now date day) (is_known r kept receiver creditor to) apart later working fits few room)
+      (is_taken (book_of r) sender reference receiver amount due (is_known r kept sender sending from) unused
+      (open_now date day) (is_known r kept receiver receiving to) apart later working fits few room)
 
 -- ---- the book after it
 
@@ -477,21 +477,21 @@ module _ (held : Held) (kept : IsKept held) (o : Order) (taken : IsTaken held.co
   not_both : (c : List ℕ) → bytes_eq o.receiver c ≡ true → bytes_eq o.sender c ≡ false
   not_both c e = subst (λ x. bytes_eq o.sender x ≡ false) ((bytes_decides o.receiver c).0 e) taken.apart
 
-  module _ (debtor creditor : Account) (from : find (is_of o.sender) held.accounts ≡ Some debtor)
-      (to : find (is_of o.receiver) held.accounts ≡ Some creditor) (less more : ℤ)
-      (is_less : less ≡ debtor.balance -ℤ pos o.amount) (is_more : more ≡ creditor.balance +ℤ pos o.amount) where
+  module _ (sending receiving : Account) (from : find (is_of o.sender) held.accounts ≡ Some sending)
+      (to : find (is_of o.receiver) held.accounts ≡ Some receiving) (less more : ℤ)
+      (is_less : less ≡ sending.balance -ℤ pos o.amount) (is_more : more ≡ receiving.balance +ℤ pos o.amount) where
     balance_of_sender : (c : List ℕ) → bytes_eq o.receiver c ≡ false → bytes_eq o.sender c ≡ true
         → less ≡ balance (with_settled held.content o) c
     balance_of_sender c e f =
-        let old : debtor.balance ≡ balance held.content c = found_balance held.content o.sender held.accounts debtor
+        let old : sending.balance ≡ balance held.content c = found_balance held.content o.sender held.accounts sending
         from kept.balanced ∙ ap (balance held.content) ((bytes_decides o.sender c).0 f) in
         let new = moves_at c false true e f in
         omega (arith, ints)
 
     balance_of_receiver : (c : List ℕ) → bytes_eq o.receiver c ≡ true → more ≡ balance (with_settled held.content o) c
     balance_of_receiver c e =
-        let old : creditor.balance ≡ balance held.content c =
-        found_balance held.content o.receiver held.accounts creditor to kept.balanced
+        let old : receiving.balance ≡ balance held.content c =
+        found_balance held.content o.receiver held.accounts receiving to kept.balanced
         ∙ ap (balance held.content) ((bytes_decides o.receiver c).0 e) in
         let new = moves_at c true false e (not_both c e) in
         omega (arith, ints)
@@ -553,7 +553,7 @@ module _ (held : Held) (kept : IsKept held) (o : Order) (taken : IsTaken held.co
 
 -- so it is in the book whose core the records are
 pub order_taken : (book : Book) (r : Records) (core : Core) (of : IsOf book r core)
-    (sender reference receiver : List ℕ) (amount date : ℕ) (due : Option ℕ) (debtor creditor : Account) (o : Order)
+    (sender reference receiver : List ℕ) (amount date : ℕ) (due : Option ℕ) (sending receiving : Account) (o : Order)
     → o ≡ record {
       number = r.orders.next;
       sender = sender;
@@ -564,16 +564,17 @@ pub order_taken : (book : Book) (r : Records) (core : Core) (of : IsOf book r co
       due = due;
       state = first_state due;
     }
-    → find (is_of sender) r.accounts.accounts ≡ Some debtor → order_named (book_of (whole book r)) sender reference
+    → find (is_of sender) r.accounts.accounts ≡ Some sending → order_named (book_of (whole book r)) sender reference
     ≡ None
     → (if is_open r.day.phase then r.day.date else None) ≡ Some date
-    → find (is_of receiver) r.accounts.accounts ≡ Some creditor → bytes_eq sender receiver ≡ false
+    → find (is_of receiver) r.accounts.accounts ≡ Some receiving → bytes_eq sender receiver ≡ false
     → is_due_too_early (book_of (whole book r)) due ≡ false → is_due_on_a_weekend due ≡ false
     → nat_le LARGEST_NUMBER (length book.orders) ≡ false → IsAmount amount
     → (not (settles_now (book_of (whole book r)) sender amount due)
     && nat_le LONGEST_QUEUE (length (waiting (book_of (whole book r)) sender))) ≡ false
     → IsTaken book o
-order_taken book r core of sender reference receiver amount date due debtor creditor o is from unused day to apart later
+order_taken book r core of sender reference receiver amount date due sending receiving o is from unused day to apart
+    later
     working few fits room =
     let next : o ≡ record {
       number = length book.orders + 1;
@@ -603,7 +604,8 @@ order_taken book r core of sender reference receiver amount date due debtor cred
       date = unwrap_or due date;
       due = due;
       state = first_state due;
-    })) of.same (taken_now (whole book r) of.kept sender reference receiver amount date due debtor creditor from unused
+    })) of.same
+    (taken_now (whole book r) of.kept sender reference receiver amount date due sending receiving from unused
     day
     to
     apart later working few fits room))

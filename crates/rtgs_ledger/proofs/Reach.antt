@@ -87,8 +87,8 @@ no_numbers (o ∷ os) e = absurd (cc)
 pub queue_is_empty : QueuesAreOfTheWaiting → (book : Book) (os : List Order) (code numbers : List ℕ)
     → os ≡ filter is_waiting book.orders → numbers ≡ queued_numbers os code → length numbers ≡ 0
     → is_empty (queue book code) ≡ true
-queue_is_empty law book os code numbers is told few =
-    let none = no_numbers (queued_among os code) (sym told ∙ nil_from_length numbers few) in
+queue_is_empty law book os code numbers is listed few =
+    let none = no_numbers (queued_among os code) (sym listed ∙ nil_from_length numbers few) in
     ap is_empty (sym (queue_is law book os code is) ∙ none)
 
 -- a list ends with what stands at its last place

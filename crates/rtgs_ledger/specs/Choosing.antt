@@ -1,4 +1,4 @@
--- What the resolver is told of a core, and the orders that lengths of queue beginnings take.
+-- What the resolver is given of a core, and the orders that lengths of queue beginnings take.
 use Rattle.std.specs.Prelude.{ℕ, ◌+◌, List, [], ◌∷◌, ◌++◌, map, take}
 use Rattle.std.specs.List.{position_or_len}
 use Rattle.std.specs.Str.{bytes_eq}

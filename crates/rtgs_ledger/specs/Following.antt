@@ -57,7 +57,6 @@ pub record SettlesOrders (rows : List RowChange) : Type 0 where
   pub rows_settle : AllByRecursion Settles rows
   pub marks : length (filter adds_mark rows) ≤ 1
 
--- the row sets no balance
 unfoldable pub sets_no_balance : RowChange → Bool
 sets_no_balance row = not (sets_balance row)
 

@@ -27,7 +27,7 @@ pub record IsPreparedByItself (old : Book) (core : Core) (command : Command) (an
   pub step : OwnStep old command (Ok answer) book
   pub leads : Leads old rows book
   pub added : AllByRecursion (StartsEmpty book rows) rows
-  -- where they change anything, the amount that the command bears is in its range
+  -- where they change anything, the amount of the command is in its range
   pub in_range : rows ≢ [] → CommandFits command
   pub balanced : AreBalanced book (core_after core rows).accounts
   -- a command that was done before has no change

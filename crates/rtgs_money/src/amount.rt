@@ -60,7 +60,6 @@ impl Amount {
             .ok_or(Lexical::BadAmount)
     }
 
-    /// The amount in cents.
     pub fn cents(self) -> u64
         ensures value { result ≡ self }
         ensures at_least_one { 1 ≤ self }

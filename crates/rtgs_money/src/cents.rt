@@ -17,7 +17,6 @@ impl Model for Cents {
 }
 
 impl Cents {
-    /// So many cents.
     pub fn new(cents: i64) -> Cents
         ensures { result ≡ cents }
     {

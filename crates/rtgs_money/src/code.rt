@@ -50,7 +50,6 @@ impl Code {
         })
     }
 
-    /// The code's bytes.
     pub fn as_bytes(&self) -> &[u8]
         ensures value { result.now ≡ self.now }
         ensures form { IsCode self.now }
@@ -59,7 +58,6 @@ impl Code {
         self.text.as_bytes()
     }
 
-    /// The code's text.
     pub fn as_str(&self) -> &str
         ensures value { result.now ≡ self.now }
         ensures form { IsCode self.now }

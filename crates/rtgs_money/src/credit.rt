@@ -30,7 +30,6 @@ impl Credit {
     /// The greatest credit limit.
     pub const MAX: u64 = 100_000_000_000_000;
 
-    /// No credit.
     pub const NONE: Credit = Credit { cents: 0 };
 
     /// The credit limit of so many cents, if a participant may have it.

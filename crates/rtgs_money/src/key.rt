@@ -48,7 +48,6 @@ impl Key {
         })
     }
 
-    /// The key's bytes.
     pub fn as_bytes(&self) -> &[u8]
         ensures value { result.now ≡ self.now }
         ensures form { IsKey self.now }
@@ -57,7 +56,6 @@ impl Key {
         self.text.as_bytes()
     }
 
-    /// The key's text.
     pub fn as_str(&self) -> &str
         ensures value { result.now ≡ self.now }
         ensures form { IsKey self.now }

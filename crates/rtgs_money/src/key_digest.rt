@@ -21,7 +21,6 @@ impl KeyDigest {
     /// How many bytes a digest has.
     pub const LENGTH: usize = 32;
 
-    /// The digest of these bytes.
     pub fn from_bytes(bytes: [u8; KeyDigest::LENGTH]) -> KeyDigest
         ensures { result ≡ bytes }
     {
@@ -36,7 +35,6 @@ impl KeyDigest {
         bytes.try_into().ok().map(KeyDigest::from_bytes)
     }
 
-    /// The bytes.
     pub fn as_bytes(&self) -> &[u8]
         ensures value { result.now ≡ self.now }
         ensures len { length self.now ≡ KeyDigest.LENGTH }

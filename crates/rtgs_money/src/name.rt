@@ -47,7 +47,6 @@ impl Name {
         })
     }
 
-    /// The name's bytes.
     pub fn as_bytes(&self) -> &[u8]
         ensures value { result.now ≡ self.now }
         ensures form { IsName self.now }
@@ -56,7 +55,6 @@ impl Name {
         self.text.as_bytes()
     }
 
-    /// The name's text.
     pub fn as_str(&self) -> &str
         ensures value { result.now ≡ self.now }
         ensures form { IsName self.now }

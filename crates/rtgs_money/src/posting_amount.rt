@@ -72,7 +72,6 @@ impl PostingAmount {
         })
     }
 
-    /// The posting in cents.
     pub fn cents(self) -> i64
         ensures value { result ≡ self }
         ensures not_zero { self ≢ pos 0 }

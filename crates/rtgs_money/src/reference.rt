@@ -47,7 +47,6 @@ impl Reference {
         })
     }
 
-    /// The reference's bytes.
     pub fn as_bytes(&self) -> &[u8]
         ensures value { result.now ≡ self.now }
         ensures form { IsReference self.now }
@@ -56,7 +55,6 @@ impl Reference {
         self.text.as_bytes()
     }
 
-    /// The reference's text.
     pub fn as_str(&self) -> &str
         ensures value { result.now ≡ self.now }
         ensures form { IsReference self.now }

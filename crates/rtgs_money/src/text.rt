@@ -37,7 +37,6 @@ impl<const N: usize> Model for Text<N> {
 }
 
 impl<const N: usize> Text<N> {
-    /// The empty text.
     pub(crate) fn new() -> Text<N>
         ensures { result ≡ [] }
     {
@@ -61,7 +60,6 @@ impl<const N: usize> Text<N> {
         self
     }
 
-    /// The bytes of the text.
     pub fn as_bytes(&self) -> &[u8]
         ensures value { result.now ≡ self.now }
         ensures ascii { IsAscii self.now }
@@ -70,7 +68,6 @@ impl<const N: usize> Text<N> {
         &self.bytes[..self.len as usize]
     }
 
-    /// The text.
     pub fn as_str(&self) -> &str
         ensures value { result.now ≡ self.now }
         ensures ascii { IsAscii self.now }

@@ -21,7 +21,6 @@ impl Model for Units {
 }
 
 impl Units {
-    /// So many cents.
     pub fn new(cents: i128) -> Units
         ensures { result ≡ cents }
     {

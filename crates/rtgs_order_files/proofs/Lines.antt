@@ -8,7 +8,6 @@ use Rattle.rtgs_order_files.specs.declared.batch_result.RowReply.{RowReply}
 use Rattle.rtgs_order_files.specs.declared.order_row.OrderRow.{OrderRow}
 use Rattle.rtgs_order_files.specs.Results.{reply_line, stop_line, result_lines}
 
--- one row more
 pub lines_more : (text : List ℕ) (rows : List OrderRow) (replies : List RowReply) (stopped : Option Refusal) (n : ℕ)
     (row : OrderRow) (reply : RowReply)
     → n < length rows → n < length replies → row ≡ get_or rows n row → reply ≡ get_or replies n reply
@@ -17,17 +16,17 @@ pub lines_more : (text : List ℕ) (rows : List OrderRow) (replies : List RowRep
 lines_more text rows replies stopped n row reply p q e f =
     let left : drop n rows ≡ row ∷ drop (n + 1) rows = drop_more rows n row p ∙ ap (λ x. x ∷ drop (n + 1) rows) (sym e)
     in
-    let told : drop n replies ≡ reply ∷ drop (n + 1) replies = drop_more replies n reply q
+    let rest : drop n replies ≡ reply ∷ drop (n + 1) replies = drop_more replies n reply q
     ∙ ap (λ x. x ∷ drop (n + 1) replies) (sym f) in
-    rw (left, told) (append_assoc text (reply_line row.reference reply)
+    rw (left, rest) (append_assoc text (reply_line row.reference reply)
     (result_lines (drop (n + 1) rows) (drop (n + 1) replies) stopped))
 
 -- a row is left, at which the batch stopped
 pub lines_stop : (rows : List OrderRow) (replies : List RowReply) (refusal : Refusal) (n : ℕ) (row : OrderRow)
     → n ≡ min (length rows) (length replies) → length replies < length rows → row ≡ get_or rows (length replies) row
     → result_lines (drop n rows) (drop n replies) (Some refusal) ≡ stop_line row.reference refusal
-lines_stop rows replies refusal n row told p e =
-    let here : n ≡ length replies = omega (arith, told, p) in
+lines_stop rows replies refusal n row counted p e =
+    let here : n ≡ length replies = omega (arith, counted, p) in
     let left : drop (length replies) rows ≡ row ∷ drop (length replies + 1) rows = drop_more rows (length replies) row p
     ∙ ap (λ x. x ∷ drop (length replies + 1) rows) (sym e) in
     rw (here, left, drop_all (length replies) replies (omega arith)) refl
@@ -36,14 +35,14 @@ lines_stop rows replies refusal n row told p e =
 pub lines_end : (rows : List OrderRow) (replies : List RowReply) (stopped : Option Refusal) (n : ℕ)
     → n ≡ min (length rows) (length replies) → length rows ≤ length replies
     → result_lines (drop n rows) (drop n replies) stopped ≡ []
-lines_end rows replies stopped n told p = rw (drop_all n rows (omega (arith, told, p))) refl
+lines_end rows replies stopped n counted p = rw (drop_all n rows (omega (arith, counted, p))) refl
 
 -- the batch has not stopped
 pub lines_none : (rows : List OrderRow) (replies : List RowReply) (n : ℕ) → n ≡ min (length rows) (length replies)
     → result_lines (drop n rows) (drop n replies) None ≡ []
-lines_none rows replies n told = elim (slice_get_cases rows (length replies)).1 [
-  | inl some ↦ rw (drop_all n replies (omega (arith, told, some.1))) (none (drop n rows))
-  | inr over ↦ lines_end rows replies None n told over.0
+lines_none rows replies n counted = elim (slice_get_cases rows (length replies)).1 [
+  | inl some ↦ rw (drop_all n replies (omega (arith, counted, some.1))) (none (drop n rows))
+  | inr over ↦ lines_end rows replies None n counted over.0
 ]
   where
     none : (rows : List OrderRow) → result_lines rows [] None ≡ []

@@ -16,7 +16,6 @@ pub enum BatchFault {
     BadRow { row: u64 },
     /// There is no row, or there are more than `MOST_ROWS`.
     BadCount,
-    /// Memory was refused.
     OutOfMemory,
 }
 

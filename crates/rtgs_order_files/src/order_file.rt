@@ -38,7 +38,6 @@ pub fn read_orders(alloc: Global, bytes: &[u8]) -> Result<Vec<OrderRow>, BatchFa
     read_rows(alloc, columns, records)
 }
 
-// The records of these bytes.
 fn records_of(alloc: Global, bytes: &[u8]) -> ByteRecordsIntoIter<&[u8]>
     ensures reading { IsReading result }
     ensures left { left_of result ≡ records_of bytes.now }

@@ -7,9 +7,9 @@ use std::fmt;
 /// Why a text was not written to its end. What was written is a beginning of it, and not the whole.
 #[derive(Debug, Drop)]
 pub enum TextFault {
-    /// Memory was refused.
     OutOfMemory,
-    /// The writer answered an error, or took no byte. Nothing else is told so, since only such a write makes the value.
+    /// The writer answered an error, or took no byte. Nothing else is reported so, since only such a write makes the
+    /// value.
     Write(WriterFailed),
 }
 

@@ -36,6 +36,7 @@ pub(crate) fn write_some<W: Write>(out: &mut W, bytes: &[u8]) -> Result<usize, W
     ensures some { IfOk result (λ taken. (1 ≤ taken) × (taken ≤ length bytes.now)) }
     ensures bytes { WriteAppends (W.contents out.old) (W.contents out.new) result bytes.now }
 {
+    // The contract is by cases of the result, and the prover sees them where it is taken apart.
     match taken_of(out.write(bytes)) {
         Ok(taken) => Ok(taken),
         Err(failed) => Err(failed),

@@ -4,7 +4,7 @@ mod Crashes
 mod Determined
 mod Headlines
 mod InMemory
-mod LetGo
+mod Released
 mod Lives
 mod OneRequest
 mod Resolving

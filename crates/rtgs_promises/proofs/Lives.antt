@@ -49,20 +49,20 @@ pub one_more : {V W : Type 0} (f : V → List Command) (r : W → List Reply) (s
     → given ≡ before ++ v ∷ [] → said ≡ was ++ w ∷ [] → AreLife start (map f before) (map r was) mid
     → IsSession (record { start = mid; commands = commands; replies = r w; found = found })
     → AreLife start (map f given) (map r said) found
-one_more f r start mid found before given was said v w commands same is told so session =
+one_more f r start mid found before given was said v w commands same is was_said so session =
     let one = subst (λ cs. IsSession (record { start = mid; commands = cs; replies = r w; found = found })) same
     session in
     let life = are_life_more start mid found (map f before) (map r was) (f v) (r w) so one in
     subst (λ a. AreLife start a (map r said) found) (sym (ap (map f) is ∙ map-append f before (v ∷ [])))
     (subst (λ b. AreLife start (map f before ++ f v ∷ []) b found)
-    (sym (ap (map r) told ∙ map-append r was (w ∷ []))) life)
+    (sym (ap (map r) was_said ∙ map-append r was (w ∷ []))) life)
 
 -- as many of all that are given as have replies
-pub as_told : {V W : Type 0} (f : V → List Command) (r : W → List Reply) (start found : Book) (all : List V)
+pub as_counted : {V W : Type 0} (f : V → List Command) (r : W → List Reply) (start found : Book) (all : List V)
     (said : List W) (n : ℕ) → length said ≡ n → AreLife start (map f (take n all)) (map r said) found
     → AreLife start (take (length (map r said)) (map f all)) (map r said) found
-as_told f r start found all said n told life = subst (λ a. AreLife start a (map r said) found)
-    (sym (take-map f n all) ∙ ap (λ k. take k (map f all)) (sym told ∙ sym (length-map said r))) life
+as_counted f r start found all said n counted life = subst (λ a. AreLife start a (map r said) found)
+    (sym (take-map f n all) ∙ ap (λ k. take k (map f all)) (sym counted ∙ sym (length-map said r))) life
 
 pub all_given : {V : Type 0} (f : V → List Command) (n : ℕ) (xs : List V) → length xs ≤ n
     → map f (take n xs) ≡ map f xs

@@ -10,7 +10,7 @@ use Rattle.rtgs_batches.specs.Batches.{orders_of}
 use Rattle.rtgs_order_files.specs.declared.order_row.OrderRow.{OrderRow}
 use Rattle.rtgs_http_banks.specs.declared.served.Served.{Served}
 use Rattle.rtgs_http_banks.specs.declared.served.Served.TheVariants.{Answered, ReadFault, WriteFault}
-use Rattle.rtgs_http_banks.specs.Dealings.{given}
+use Rattle.rtgs_http_banks.specs.Handling.{given}
 use Rattle.rtgs_http_banks.specs.Exchange.{IsAllowed}
 use Rattle.rtgs_http_banks.specs.Serving.{Sends, Serves}
 use Rattle.rtgs_http_input.specs.Input.{OfInput}

@@ -8,19 +8,19 @@ use Rattle.rtgs_keeper.specs.declared.keeper.Keeper.{Ghosts}
 use Rattle.rtgs_ledger.specs.Keys.{code_under}
 use Rattle.rtgs_desk.specs.Seen.{Seen}
 use Rattle.rtgs_http_replies.specs.Messages.{Message}
-use Rattle.rtgs_http_requests.specs.Access.{BearsKey, IsCommandOf}
-use Rattle.rtgs_http_banks.specs.Dealings.{given}
-use Rattle.rtgs_http_banks.specs.Exchange.{Deals}
+use Rattle.rtgs_http_requests.specs.Access.{CarriesKey, IsCommandOf}
+use Rattle.rtgs_http_banks.specs.Handling.{given}
+use Rattle.rtgs_http_banks.specs.Exchange.{Handles}
 use Rattle.rtgs_http_banks.specs.Serving.{Serves}
 use Rattle.rtgs_http_banks.specs.declared.served.Served.{Served}
 use Rattle.rtgs_http_banks.specs.declared.served.Served.TheVariants.{ReadFault}
 use Rattle.rtgs_http_input.specs.declared.ReaderFailed.{ReaderFailed}
 use Rattle.rtgs_promises.specs.Headline.{IsHeadline}
 
--- The commands are none; or the input bears the operator's key; or it bears the key of a participant, and each of them
--- is an order or a withdrawal of this participant's own.
+-- The commands are none; or the input carries the operator's key; or it carries the key of a participant, and each of
+-- them is an order or a withdrawal of this participant's own.
 abbrev pub AreAllowed : List ℕ → Book → List ℕ → List Command → Type 0
-AreAllowed operator book input commands = (commands ≡ []) ⊎ ((digest : List ℕ) × BearsKey input digest
+AreAllowed operator book input commands = (commands ≡ []) ⊎ ((digest : List ℕ) × CarriesKey input digest
     × ((digest ≡ operator)
     ⊎ ((code : List ℕ) × (code_under book digest ≡ Some code) × AllByRecursion (IsCommandOf code) commands)))
 
@@ -30,10 +30,10 @@ pub record IsAnswered {K : Type 0} (g : Ghosts K) (operator : List ℕ) (start :
     (found : Book) : Type 0 where
   -- the desk before the stop
   pub desk : Seen K
-  pub deals : Deals g operator start input desk sent
+  pub handles : Handles g operator start input desk sent
   pub replies : List Reply
-  pub allowed : AreAllowed operator start input (given deals.answer (length replies))
-  pub headline : IsHeadline start (given deals.answer (length replies) ∷ []) (replies ∷ []) found
+  pub allowed : AreAllowed operator start input (given handles.answer (length replies))
+  pub headline : IsHeadline start (given handles.answer (length replies) ∷ []) (replies ∷ []) found
 
 -- What is written is the answer to the request, whole or a beginning of it. Where the reader failed, nothing was done.
 -- `known` are the bytes that the reader has, if they are known, and `old` and `new` those that were written before and

@@ -22,7 +22,6 @@ use sqlite::Alter;
 use sqlite_trees::store::Reopen;
 use std::alloc::Global;
 
-/// Sends a batch.
 pub(crate) fn send<K: Keeper>(
     alloc: Global,
     desk: &mut Desk<K>,

@@ -20,7 +20,7 @@ ghost use Rattle.rtgs_stored_desk.specs.Stored.{AreTablesOf};
 
 use crate::books::{each_resolution_settles_the_greatest_choice, nothing_settles_early};
 use crate::desks::tables_are_exactly_the_book;
-use crate::living::{begun, given_up};
+use crate::living::{abandoned, begun};
 use crate::making::tables_made;
 use crate::memory::made_in_memory;
 use crate::sessions::{Cause, Unfinished, Visit};
@@ -121,7 +121,7 @@ pub fn live<S: Alter + Reopen + Drop>(
                 return Err(Unfinished {
                     said,
                     cause: Cause::NoRoom,
-                    store: given_up(desk),
+                    store: abandoned(desk),
                 });
             }
         };

@@ -28,10 +28,10 @@ use std::alloc::Global;
 pub(crate) fn begun<S: Alter + Drop>(
     alloc: Global,
     conn: Connection<S>,
-    many: usize,
+    count: usize,
 ) -> Result<(Vec<Vec<Result<WholeAnswer, Refusal>>>, Desk<SqlKeeper<S>>), Unfinished<S>>
     requires { conn.in_transaction ≡ false }
-    ensures none { IfOk result (λ (said, _). (said.items ≡ []) × (many ≤ vec_capacity said)) }
+    ensures none { IfOk result (λ (said, _). (said.items ≡ []) × (count ≤ vec_capacity said)) }
     ensures held { IfOk result (λ (_, desk). HasCleanDisk (state S.Store desk.keeper.conn)
         → IsTrue (state S.Store conn).is_open
         → (book : Book) → AreTablesOf book (state S.Store conn).committed.trees
@@ -59,18 +59,18 @@ pub(crate) fn begun<S: Alter + Drop>(
             });
         }
     };
-    match Vec::with_capacity(alloc, many) {
+    match Vec::with_capacity(alloc, count) {
         Ok(said) => Ok((said, desk)),
         Err(_) => Err(Unfinished {
             said: none,
             cause: Cause::NoRoom,
-            store: given_up(desk),
+            store: abandoned(desk),
         }),
     }
 }
 
-/// The store of a desk that is given up. A crash leaves the tables of its book.
-pub(crate) fn given_up<S: Alter + Drop>(desk: Desk<SqlKeeper<S>>) -> S
+/// The store of a desk that is abandoned. A crash leaves the tables of its book.
+pub(crate) fn abandoned<S: Alter + Drop>(desk: Desk<SqlKeeper<S>>) -> S
     ensures tables { IsClean (S.Store.view result) → (book : Book)
         → Holds ⟦<SqlKeeper<S> as Keeper>⟧ desk book → LeavesTables book (S.Store.recovers result) }
     ensures honest { IsClean (S.Store.view result) → HasCleanDisk (state S.Store desk.keeper.conn) }

@@ -11,8 +11,8 @@ ghost use Rattle.rtgs_book.specs.declared.Book.{Book};
 ghost use Rattle.rtgs_book.specs.declared.reading.Reading.{Reading};
 ghost use Rattle.rtgs_desk.specs.Holding.{Holds};
 ghost use Rattle.rtgs_desk.specs.Seen.{Seen};
-ghost use Rattle.rtgs_http_banks.specs.Dealings.{given};
-ghost use Rattle.rtgs_http_banks.specs.Exchange.{Deals, Exchanges, IsAskedByBearer};
+ghost use Rattle.rtgs_http_banks.specs.Handling.{given};
+ghost use Rattle.rtgs_http_banks.specs.Exchange.{Handles, Exchanges, IsAskedByBearer};
 ghost use Rattle.rtgs_http_laws.specs.Alike.{EndAlike};
 ghost use Rattle.rtgs_http_laws.specs.Own.{AgreeFor, IsSentBy};
 ghost use Rattle.rtgs_http_replies.specs.Messages.{Message};
@@ -30,7 +30,7 @@ use crate::sessions::{Cause, Stop};
 use crate::stopping::found_again;
 use rtgs_desk::Desk;
 use rtgs_http_banks::Served;
-use rtgs_http_laws::laws::{participants_are_told_of_their_own_rows, replies_are_determined};
+use rtgs_http_laws::laws::{participants_are_shown_their_own_rows, replies_are_determined};
 use rtgs_http_requests::laws::answers_are_determined;
 use rtgs_keeper::Keeper;
 use rtgs_money::KeyDigest;
@@ -45,8 +45,8 @@ use std::io::{Read, Write};
 /// bytes ask for, and the bearer of the key may give them; and the stop that comes then leaves what promise 1 says.
 /// Where the reader fails, nothing was done. So it is with whatever a crash leaves where no desk opens again.
 // To judge it, read these 85 files, 536 definitions: rtgs_promises Headline, Keys; rtgs_desk Holding, Seen, Replies,
-// Readings; rtgs_http_banks Serving, Exchange, Dealings, Sayings; rtgs_rows Content, Keeping, Fitting, Tables, Dues,
-// Rows; rtgs_book Calm, Soundness, Session, Run, Laws, Ranges, Procedure, Refusals, Standings; rtgs_http_replies
+// Readings; rtgs_http_banks Serving, Exchange, Handling, ReplyMessages; rtgs_rows Content, Keeping, Fitting, Tables,
+// Dues, Rows; rtgs_book Calm, Soundness, Session, Run, Laws, Ranges, Procedure, Refusals, Standings; rtgs_http_replies
 // Messages, Kinds, Texts, Bodies; rtgs_output Sent; the ten of a command; rtgs_cores Cores; rtgs_http_input Input;
 // rtgs_http_requests Exchange, Access, Callers, Meaning, Steps, Bodies, Faults, Contents; rtgs_ledger Keys, Kept;
 // rtgs_batches Batches, Sent; rtgs_repeats Lives, Lasting, Batch, Repeats, Once; rtgs_http_heads Targets, Heads,
@@ -87,7 +87,7 @@ pub fn serve_and_stop<R: Read, W: Write, S: Alter + Reopen + Drop>(
 /// **Promise 12. A request has one meaning.** What it asks for and its reply are a function of the book and the
 /// request's bytes. Set aside is lack of memory, and for the reply a fault of the store: the status is then 503.
 // To judge it, read these 75 files, 460 definitions: rtgs_desk Seen, Holding, Replies, Readings; rtgs_http_replies
-// Messages, Kinds, Texts, Bodies; rtgs_http_banks Exchange, Dealings, Sayings; rtgs_http_requests Same, Exchange,
+// Messages, Kinds, Texts, Bodies; rtgs_http_banks Exchange, Handling, ReplyMessages; rtgs_http_requests Same, Exchange,
 // Meaning, Callers, Steps, Bodies, Access, Faults, Contents; rtgs_http_laws Alike; rtgs_ledger Keys, Kept;
 // rtgs_http_heads Targets, Heads, Fields, Tables; rtgs_desk_texts Written, Accounts; the ten of a command; rtgs_book
 // Calm, Session, Run, Soundness, Ranges, Laws, Refusals, Procedure, Standings; rtgs_http_feeds Region; rtgs_http_bodies
@@ -95,32 +95,32 @@ pub fn serve_and_stop<R: Read, W: Write, S: Alter + Reopen + Drop>(
 // rtgs_cores Cores; rtgs_money Forms, Lexical, Amounts, Digits, Units; rtgs_repeats Lasting, Batch, Repeats, Once;
 // rtgs_refusals Table; rtgs_statements Texts, Records, Lines, Sums, Tallies, Columns.
 pub fn a_book_and_an_input_have_one_reply<K: Keeper>()
-    ensures asked { (operator input : List ℕ) (old : Book) (one other : Seen K) (sent told : Message)
-        (first : Deals K.Keeper operator old input one sent) (second : Deals K.Keeper operator old input other told)
+    ensures asked { (operator input : List ℕ) (old : Book) (one other : Seen K) (sent again : Message)
+        (first : Handles K.Keeper operator old input one sent) (second : Handles K.Keeper operator old input other again)
         → first.answer ≢ Err HttpFault.OutOfMemory → second.answer ≢ Err HttpFault.OutOfMemory
         → AreTheSame first.answer second.answer }
-    ensures replied { (operator input : List ℕ) (old : Book) (one other : Seen K) (sent told : Message)
-        → Deals K.Keeper operator old input one sent → Deals K.Keeper operator old input other told
-        → sent.status ≢ 503 → told.status ≢ 503 → EndAlike K.Keeper one other sent told }
+    ensures replied { (operator input : List ℕ) (old : Book) (one other : Seen K) (sent again : Message)
+        → Handles K.Keeper operator old input one sent → Handles K.Keeper operator old input other again
+        → sent.status ≢ 503 → again.status ≢ 503 → EndAlike K.Keeper one other sent again }
 {
     answers_are_determined();
     replies_are_determined::<K>();
 }
 
 /// **Promise 13. Nobody acts but with his own key.** The commands of a request are those of the operator's key, or
-/// orders and withdrawals of the participant whose key the input bears. Whatever a desk holds, a request changes it
+/// orders and withdrawals of the participant whose key the input carries. Whatever a desk holds, a request changes it
 /// only for what the bearer of a key may ask.
 // To judge it, read these 76 files, 465 definitions: rtgs_promises Keys; rtgs_desk Seen, Holding, Replies, Readings;
-// rtgs_http_replies Messages, Kinds, Texts, Bodies; rtgs_http_banks Exchange, Dealings, Sayings; rtgs_http_requests
-// Access, Exchange, Callers, Meaning, Steps, Bodies, Faults, Plans, Contents; rtgs_ledger Keys, Kept; rtgs_batches
-// Batches, Sent; rtgs_http_feeds Region; rtgs_http_heads Heads, Fields, Targets, Tables; rtgs_desk_texts Written,
-// Accounts; the ten of a command; rtgs_book Calm, Session, Refusals, Run, Soundness, Ranges, Laws, Procedure,
-// Standings; rtgs_http_bodies Refusals, Statuses, Answers, Readings; rtgs_cores Following, Cores; rtgs_money Forms,
-// Lexical, Amounts, Digits, Units; rtgs_order_files Results, BatchFaults, OrderFile; rtgs_repeats Lasting, Batch,
-// Repeats, Once; rtgs_refusals Table; rtgs_statements Texts, Records, Lines, Sums, Tallies, Columns.
+// rtgs_http_replies Messages, Kinds, Texts, Bodies; rtgs_http_banks Exchange, Handling, ReplyMessages;
+// rtgs_http_requests Access, Exchange, Callers, Meaning, Steps, Bodies, Faults, Plans, Contents; rtgs_ledger Keys,
+// Kept; rtgs_batches Batches, Sent; rtgs_http_feeds Region; rtgs_http_heads Heads, Fields, Targets, Tables;
+// rtgs_desk_texts Written, Accounts; the ten of a command; rtgs_book Calm, Session, Refusals, Run, Soundness, Ranges,
+// Laws, Procedure, Standings; rtgs_http_bodies Refusals, Statuses, Answers, Readings; rtgs_cores Following, Cores;
+// rtgs_money Forms, Lexical, Amounts, Digits, Units; rtgs_order_files Results, BatchFaults, OrderFile; rtgs_repeats
+// Lasting, Batch, Repeats, Once; rtgs_refusals Table; rtgs_statements Texts, Records, Lines, Sums, Tallies, Columns.
 pub fn nobody_acts_with_the_key_of_another<K: Keeper>()
     ensures commands { (operator input : List ℕ) (book : Book) (desk : Seen K) (sent : Message)
-        (request : Deals K.Keeper operator book input desk sent)
+        (request : Handles K.Keeper operator book input desk sent)
         → AreAllowed operator book input (given request.answer (length request.works.0)) }
     ensures changes { (operator input : List ℕ) (old new : Seen K) (sent : Message)
         → Exchanges K.Keeper operator old input new sent
@@ -128,22 +128,22 @@ pub fn nobody_acts_with_the_key_of_another<K: Keeper>()
 {}
 
 /// **Promise 13. And nobody reads the rows of others.** Two books that agree in a participant's own rows give the same
-/// reply to each reading that bears its key. Set aside are replies with the status 503.
+/// reply to each reading that carries its key. Set aside are replies with the status 503.
 // To judge it, read these 74 files, 461 definitions: rtgs_desk Seen, Holding, Replies, Readings; rtgs_http_replies
 // Messages, Kinds, Texts, Bodies; rtgs_http_laws Own; rtgs_http_requests Exchange, Access, Callers, Meaning, Steps,
-// Bodies, Faults, Contents; rtgs_ledger Keys, Kept; rtgs_http_banks Exchange, Dealings, Sayings; the ten of a command;
-// rtgs_http_heads Targets, Heads, Fields, Tables; rtgs_http_feeds Region; rtgs_desk_texts Written, Accounts; rtgs_money
-// Forms, Lexical, Amounts, Digits, Units; rtgs_http_bodies Refusals, Statuses, Answers, Readings; rtgs_batches Batches,
-// Sent; rtgs_order_files Results, OrderFile, BatchFaults; rtgs_book Calm, Session, Run, Laws, Refusals, Soundness,
-// Ranges, Procedure, Standings; rtgs_repeats Lasting, Batch, Repeats, Once; rtgs_cores Cores; rtgs_refusals Table;
-// rtgs_statements Texts, Records, Lines, Sums, Tallies, Columns.
+// Bodies, Faults, Contents; rtgs_ledger Keys, Kept; rtgs_http_banks Exchange, Handling, ReplyMessages; the ten of a
+// command; rtgs_http_heads Targets, Heads, Fields, Tables; rtgs_http_feeds Region; rtgs_desk_texts Written, Accounts;
+// rtgs_money Forms, Lexical, Amounts, Digits, Units; rtgs_http_bodies Refusals, Statuses, Answers, Readings;
+// rtgs_batches Batches, Sent; rtgs_order_files Results, OrderFile, BatchFaults; rtgs_book Calm, Session, Run, Laws,
+// Refusals, Soundness, Ranges, Procedure, Standings; rtgs_repeats Lasting, Batch, Repeats, Once; rtgs_cores Cores;
+// rtgs_refusals Table; rtgs_statements Texts, Records, Lines, Sums, Tallies, Columns.
 pub fn nobody_reads_the_rows_of_others<K: Keeper>()
-    ensures { (operator input code : List ℕ) (one other : Book) (first second : Seen K) (sent told : Message)
+    ensures { (operator input code : List ℕ) (one other : Book) (first second : Seen K) (sent again : Message)
         (reading : Reading) → AgreeFor code one other
         → IsSentBy operator one code input → IsSentBy operator other code input
         → AsksFor operator (code_under one) input (Ok (Asked.Read reading))
-        → Deals K.Keeper operator one input first sent → Deals K.Keeper operator other input second told
-        → sent.status ≢ 503 → told.status ≢ 503 → told ≡ sent }
+        → Handles K.Keeper operator one input first sent → Handles K.Keeper operator other input second again
+        → sent.status ≢ 503 → again.status ≢ 503 → again ≡ sent }
 {
-    participants_are_told_of_their_own_rows::<K>();
+    participants_are_shown_their_own_rows::<K>();
 }

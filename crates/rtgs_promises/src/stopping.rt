@@ -68,6 +68,7 @@ fn connected<S: Alter + Drop>(alloc: Global, store: S) -> Result<Connection<S>, 
     ensures honest { IfOk result (λ conn. HasCleanDisk (state S.Store conn) → IsClean (S.Store.view store)) }
     ensures err { IfErr result (λ (_, left). LeavesNoMore S.Store store left) }
 {
+    // The contract is by cases of the result, and the prover sees them where it is taken apart.
     match Connection::over(alloc, store) {
         Ok(conn) => Ok(conn),
         Err((error, left)) => Err((error, left)),

@@ -18,9 +18,9 @@ use Rattle.rtgs_book.specs.declared.order_state.OrderState.{OrderState}
 use Rattle.rtgs_book.specs.Books.{is_held, is_waiting, is_queued_state, is_held_state, is_waiting_state}
 use Rattle.rtgs_book.specs.Commands.{entered, has_number, is_held_with}
 use Rattle.rtgs_book.specs.Settle.{altered, restated}
-use Rattle.rtgs_queues.specs.declared.queues.Queues.{Queues}
+use Rattle.rtgs_queues.specs.declared.queues.QueueNumbers.{QueueNumbers}
 use Rattle.rtgs_queues.specs.Orders.{IsKept, AreRising, AreWaiting, HasNumberAt, numbers_among}
-use Rattle.rtgs_queues.specs.Queues.{AreInOrder, numbers_of, room_of}
+use Rattle.rtgs_queues.specs.QueueNumbers.{AreInOrder, numbers_of, room_of}
 use Rattle.std.specs.Cmp.Lexicographic.{bytes_decides}
 use Rattle.rtgs_book.specs.declared.order_state.OrderState.TheVariants.{Queued, Held, Settled, Withdrawn, Rejected}
 use Rattle.rtgs_queues.proofs.Among.{all_numbers, number_among, numbers_keep, numbers_leave, numbers_push}
@@ -447,10 +447,10 @@ only_one number order (x ∷ xs) h (suc i) at is (suc k) d lt g = only_one numbe
     (record { in_range = (let l = at.in_range in omega arith); has_number = λ d. at.has_number d }) is k d
     (omega arith) g
 
-module _ (orders : List Order) (queues held : Queues) (next : ℕ) (awaited : Option (List ℕ)) (holds tidy : Bool)
+module _ (orders : List Order) (queues held : QueueNumbers) (next : ℕ) (awaited : Option (List ℕ)) (holds tidy : Bool)
     (kept : IsKept orders queues held next awaited holds tidy) where
   -- nothing is awaited, and no room is lost
-  pub kept_alone : (new more : Queues) → ((sender : List ℕ) → numbers_of new sender ≡ numbers_of queues sender)
+  pub kept_alone : (new more : QueueNumbers) → ((sender : List ℕ) → numbers_of new sender ≡ numbers_of queues sender)
       → ((sender : List ℕ) → numbers_of more sender ≡ numbers_of held sender)
       → ((sender : List ℕ) → room_of queues sender ≤ room_of new sender)
       → IsKept orders new more next None holds tidy
@@ -492,7 +492,7 @@ module _ (orders : List Order) (queues held : Queues) (next : ℕ) (awaited : Op
         kept.before) (omega arith)
 
     -- the awaited order is queued
-    pub kept_push : (new : Queues) → is_queued_state order.state ≡ true → is_held_state order.state ≡ false
+    pub kept_push : (new : QueueNumbers) → is_queued_state order.state ≡ true → is_held_state order.state ≡ false
         → ((sender : List ℕ) → numbers_of new sender ≡ cond (bytes_eq order.sender sender)
         (numbers_of queues sender ++ order.number ∷ []) (numbers_of queues sender))
         → ((sender : List ℕ) → room_of queues sender ≤ room_of new sender + cond (bytes_eq order.sender sender) 1 0)
@@ -518,7 +518,7 @@ module _ (orders : List Order) (queues held : Queues) (next : ℕ) (awaited : Op
         by sender false e less = let had = kept.roomy sender in omega arith
 
     -- or it is held
-    pub kept_hold : (more : Queues) → is_queued_state order.state ≡ false → is_held_state order.state ≡ true
+    pub kept_hold : (more : QueueNumbers) → is_queued_state order.state ≡ false → is_held_state order.state ≡ true
         → ((sender : List ℕ) → numbers_of more sender ≡ cond (bytes_eq order.sender sender)
         (numbers_of held sender ++ order.number ∷ []) (numbers_of held sender))
         → IsKept (orders ++ order ∷ []) queues more (next + 1) None holds tidy
@@ -546,7 +546,7 @@ module _ (orders : List Order) (queues held : Queues) (next : ℕ) (awaited : Op
         by sender false e is = let had = kept.roomy sender in let long = ap length is in omega arith
 
   -- an order gets a state in which it waits no more, and they are tidy no more
-  pub kept_restated : (number : ℕ) (state : OrderState) (at : ℕ) (order : Order) (new more : Queues)
+  pub kept_restated : (number : ℕ) (state : OrderState) (at : ℕ) (order : Order) (new more : QueueNumbers)
       → is_waiting_state state ≡ false → HasNumberAt number orders at → ((d : Order) → order ≡ get_or orders at d)
       → ((sender : List ℕ) → numbers_of new sender ≡ cond (bytes_eq order.sender sender)
       (filter (λ (n : ℕ). not (n == number)) (numbers_of queues sender)) (numbers_of queues sender))
@@ -599,7 +599,7 @@ module _ (orders : List Order) (queues held : Queues) (next : ℕ) (awaited : Op
           ))))
 
   -- a held order enters its queue, after the orders there
-  pub kept_entered : (number date at : ℕ) (order : Order) (new more : Queues)
+  pub kept_entered : (number date at : ℕ) (order : Order) (new more : QueueNumbers)
       → is_held_state order.state ≡ true → HasNumberAt number orders at → ((d : Order) → order ≡ get_or orders at d)
       → ((sender : List ℕ) → numbers_of new sender ≡ cond (bytes_eq order.sender sender)
       (put_in (λ n. nat_lt n number) number (numbers_of queues sender)) (numbers_of queues sender))
@@ -742,18 +742,18 @@ waiting_end (x ∷ xs) o = by (is_waiting x) (is_waiting o) (waiting_end xs o)
 -- ---- loading
 
 -- the places of the orders so far
-abbrev pub ArePlaces : List Order → Queues → Queues → Type 0
+abbrev pub ArePlaces : List Order → QueueNumbers → QueueNumbers → Type 0
 ArePlaces os queues others = record {
   queued : (sender : List ℕ) → numbers_of queues sender ≡ numbers_among is_queued_state os sender;
   held : (sender : List ℕ) → numbers_of others sender ≡ numbers_among is_held_state os sender;
   roomy : (sender : List ℕ) → length (numbers_of others sender) ≤ room_of queues sender;
 }
 
-module _ (os : List Order) (x : Order) (queues held reserved : Queues) (places : ArePlaces os queues held)
+module _ (os : List Order) (x : Order) (queues held reserved : QueueNumbers) (places : ArePlaces os queues held)
     (same : (sender : List ℕ) → numbers_of reserved sender ≡ numbers_of queues sender)
     (more : (sender : List ℕ) → room_of queues sender ≤ room_of reserved sender)
     (wide : length (numbers_of held x.sender) + 1 ≤ room_of reserved x.sender) where
-  pub place_queued : (new : Queues) → is_queued_state x.state ≡ true → is_held_state x.state ≡ false
+  pub place_queued : (new : QueueNumbers) → is_queued_state x.state ≡ true → is_held_state x.state ≡ false
       → ((sender : List ℕ) → numbers_of new sender ≡ cond (bytes_eq x.sender sender)
       (numbers_of reserved sender ++ x.number ∷ []) (numbers_of reserved sender))
       → ((sender : List ℕ) → room_of reserved sender ≤ room_of new sender + cond (bytes_eq x.sender sender) 1 0)
@@ -773,7 +773,7 @@ module _ (os : List Order) (x : Order) (queues held reserved : Queues) (places :
           let had = subst (λ s. length (numbers_of held s) + 1 ≤ room_of reserved s) at wide in omega arith
       by sender false e less = let had = places.roomy sender in let has = more sender in omega arith
 
-  pub place_held : (new space : Queues) → is_queued_state x.state ≡ false → is_held_state x.state ≡ true
+  pub place_held : (new space : QueueNumbers) → is_queued_state x.state ≡ false → is_held_state x.state ≡ true
       → ((sender : List ℕ) → numbers_of space sender ≡ numbers_of held sender)
       → ((sender : List ℕ) → numbers_of new sender ≡ cond (bytes_eq x.sender sender)
       (numbers_of space sender ++ x.number ∷ []) (numbers_of space sender))

@@ -1,3 +1,3 @@
 pub mod Laws
 pub mod Orders
-pub mod Queues
+pub mod QueueNumbers

@@ -6,8 +6,8 @@ use Rattle.std.specs.Str.{bytes_eq}
 use Rattle.rtgs_book.specs.declared.order.Order.{Order}
 use Rattle.rtgs_book.specs.declared.order_state.OrderState.{OrderState}
 use Rattle.rtgs_book.specs.Books.{is_held, is_waiting, is_queued_state, is_held_state}
-use Rattle.rtgs_queues.specs.declared.queues.Queues.{Queues}
-use Rattle.rtgs_queues.specs.Queues.{numbers_of, room_of}
+use Rattle.rtgs_queues.specs.declared.queues.QueueNumbers.{QueueNumbers}
+use Rattle.rtgs_queues.specs.QueueNumbers.{numbers_of, room_of}
 
 -- the orders that wait, whether they are all that is in memory, the number of the next order, how many more can wait
 -- without memory, the sender of whom one more can, and whether that one may be held
@@ -26,7 +26,6 @@ pub record AwaitsOrder (list : OrderList) (order : Order) : Type 0 where
   pub awaited : is_waiting order ≡ true → list.awaited ≡ Some order.sender
   pub holds : is_held order ≡ true → list.holds ≡ true
 
--- numbers rise
 abbrev pub AreRising : List Order → Type 0
 AreRising [] = ⊤
 AreRising (order ∷ orders) = AllByRecursion (λ (later : Order). order.number < later.number) orders × AreRising orders
@@ -44,7 +43,7 @@ numbers_among is_in orders sender =
 -- room for each of its held orders, and for one order more where one is awaited; so an order needs no memory to enter
 -- its queue. There is room among the held where the awaited order may be held. And no order is in memory that waits no
 -- more, while they are tidy.
-pub record IsKept (orders : List Order) (queues others : Queues) (next : ℕ) (awaited : Option (List ℕ))
+pub record IsKept (orders : List Order) (queues others : QueueNumbers) (next : ℕ) (awaited : Option (List ℕ))
     (holds tidy : Bool) : Type 0
   where
     pub rising : AreRising orders

@@ -10,9 +10,9 @@ ghost use Rattle.rtgs_book.specs.Commands.{entered, has_number, is_held_with};
 ghost use Rattle.rtgs_book.specs.Settle.{altered};
 ghost use Rattle.rtgs_book.specs.Queue.{queued_among, queued_numbers};
 ghost use Rattle.rtgs_queues.specs.Orders.{AreRising, AreWaiting, AwaitsOrder, HasNumberAt, numbers_among};
-ghost use Rattle.rtgs_queues.specs.Queues.{numbers_of, room_of};
+ghost use Rattle.rtgs_queues.specs.QueueNumbers.{numbers_of, room_of};
 
-use crate::queues::Queues;
+use crate::queues::QueueNumbers;
 use rtgs_book::{Order, OrderState, Rows};
 use rtgs_money::{BusinessDate, Code};
 use std::alloc::{AllocError, Global};
@@ -25,9 +25,9 @@ use std::marker::Model;
 pub struct Orders {
     // Those that wait no more are among them until they are swept out.
     orders: Vec<Order>,
-    queues: Queues,
+    queues: QueueNumbers,
     // Each queue has room for its sender's held orders.
-    held: Queues,
+    held: QueueNumbers,
     next: u64,
     awaited: Option<Code>,
     // Whether the awaited order has room among the held ones.
@@ -273,7 +273,7 @@ fn keep_waiting(orders: &mut Vec<Order>)
 }
 
 // The queue of each sender, with room for its held orders, and these.
-fn places_of(alloc: Global, orders: &[Order]) -> Result<(Queues, Queues), AllocError>
+fn places_of(alloc: Global, orders: &[Order]) -> Result<(QueueNumbers, QueueNumbers), AllocError>
     ensures queued { IfOk result (λ (queues, held). (sender : List ℕ) → numbers_of queues sender
         ≡ numbers_among is_queued_state orders.now sender) }
     ensures held { IfOk result (λ (queues, held). (sender : List ℕ) → numbers_of held sender
@@ -281,8 +281,8 @@ fn places_of(alloc: Global, orders: &[Order]) -> Result<(Queues, Queues), AllocE
     ensures roomy { IfOk result (λ (queues, held). (sender : List ℕ) → length (numbers_of held sender)
         ≤ room_of queues sender) }
 {
-    let mut queues = Queues::new(alloc);
-    let mut held = Queues::new(alloc);
+    let mut queues = QueueNumbers::new(alloc);
+    let mut held = QueueNumbers::new(alloc);
     for order in orders {
         let more = held.get(&order.sender).len() + 1;
         queues.reserve(order.sender, more)?;

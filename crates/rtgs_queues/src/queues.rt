@@ -3,7 +3,7 @@ ghost use Rattle.std.specs.Prelude.{◌≡◌, ◌≤◌, ◌+◌, ◌++◌, ◌
 ghost use Rattle.std.specs.Str.{bytes_eq};
 ghost use Rattle.std.specs.Vec.{vec_capacity};
 ghost use Rattle.std.specs.Prelude.{nat_lt, vec_len, ◌<◌};
-ghost use Rattle.rtgs_queues.specs.Queues.{AreInOrder, numbers_of, room_of};
+ghost use Rattle.rtgs_queues.specs.QueueNumbers.{AreInOrder, numbers_of, room_of};
 
 use rtgs_money::Code;
 use std::alloc::{AllocError, Global};
@@ -11,16 +11,15 @@ use std::collections::BTreeMap;
 
 /// Numbers of orders in queues, one queue for each sender. A sender without an entry has an empty queue.
 #[derive(Debug, Drop)]
-pub struct Queues {
+pub struct QueueNumbers {
     numbers: BTreeMap<Code, Vec<u64>>,
 }
 
-impl Queues {
-    /// Empty queues.
+impl QueueNumbers {
     pub fn new(alloc: Global) -> Self
         ensures { (sender : List ℕ) → numbers_of result sender ≡ [] }
     {
-        Queues {
+        QueueNumbers {
             numbers: BTreeMap::new(alloc),
         }
     }
@@ -36,13 +35,13 @@ impl Queues {
     }
 
     /// Makes room for so many numbers more in the sender's queue. No queue loses room.
-    pub fn reserve(&mut self, sender: Code, many: usize) -> Result<(), AllocError>
+    pub fn reserve(&mut self, sender: Code, count: usize) -> Result<(), AllocError>
         ensures same { (other : List ℕ) → numbers_of self.new other ≡ numbers_of self.old other }
-        ensures room { OnOk result (many ≤ room_of self.new sender) }
+        ensures room { OnOk result (count ≤ room_of self.new sender) }
         ensures more { (other : List ℕ) → room_of self.old other ≤ room_of self.new other }
     {
         let queue = self.numbers.entry(sender)?.or_default();
-        queue.reserve(many)
+        queue.reserve(count)
     }
 
     /// Puts a number at the end of the sender's queue, in the room that was made for it, and takes no other room.

@@ -24,7 +24,7 @@ pub record Held : Type 0 where
   pub core : Core
   pub room : Room
 
--- The row can be made: what it adds is new, bears the next number, and finds its room. No order waits again, and no two
+-- The row can be made: what it adds is new, has the next number, and finds its room. No order waits again, and no two
 -- participants get a key. An order that enters its queue has had its room since it was taken.
 abbrev pub FindsRoom : Held → RowChange → Type 0
 FindsRoom held (AddParticipant participant) = (find (is_of participant.code) held.core.accounts ≡ None)

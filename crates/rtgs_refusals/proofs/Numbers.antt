@@ -19,7 +19,6 @@ use Rattle.rtgs_refusals.specs.declared.refusal_kind.RefusalKind.TheVariants.{An
 use Rattle.rtgs_refusals.specs.declared.refusal_kind.RefusalKind.TheVariants.{Failed, NotADeskFile, Inconsistent, InUse}
 use Rattle.rtgs_refusals.specs.declared.refusal_kind.RefusalKind.TheVariants.{FileExists, NoListen, NoOrderFile}
 
--- all kinds
 abbrev kinds : List RefusalKind
 kinds = UnknownParticipant ∷ UnknownReceiver ∷ SameParty ∷ ReferenceUsed ∷ NotOpen ∷ NoCover ∷ QueueFull ∷ NumbersUsedUp
     ∷ UnknownOrder ∷ CodeTaken ∷ KeyTaken ∷ TooManyParticipants ∷ TotalTooLarge ∷ WrongPhase ∷ WrongDate ∷ Weekend

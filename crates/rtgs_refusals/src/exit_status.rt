@@ -3,7 +3,6 @@
 /// What was asked for was done.
 pub const DONE: u8 = 0;
 
-/// It was refused.
 pub const REFUSED: u8 = 1;
 
 /// The words are no command line.

@@ -85,9 +85,7 @@ pub enum RefusalKind {
     NoKey,
     /// A command was done, and its answer is lost.
     AnswerLost,
-    /// Memory was refused.
     OutOfMemory,
-    /// The store failed.
     StoreFault,
     /// The store had failed before.
     Failed,

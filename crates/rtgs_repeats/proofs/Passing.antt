@@ -5,7 +5,6 @@ use Rattle.std.specs.List.{AllByRecursion, list_any}
 use Rattle.rtgs_book.specs.declared.book.Book.{Book}
 use Rattle.rtgs_book.specs.Outcome.{OwnReply, Outcome, first_of, is_done}
 
--- no test holds
 abbrev pub NoneHolds : List (Bool × OwnReply) → Type 0
 NoneHolds rows = AllByRecursion (λ (row : Bool × OwnReply). row.0 ≡ false) rows
 

@@ -20,7 +20,6 @@ ResumedBatchEndsAlike = (old mid last end : Book) (sender : List ℕ) (first res
     → MayComeAgain old one
     → Run old first one mid → Run mid (first ++ rest) two last → Run old (first ++ rest) three end → last ≡ end
 
--- one reply more
 may_more : (book : Book) (one : List Reply) (reply : Reply) → MayComeAgain book one → IsNotFull reply
     → MayComeAgain book (one ++ reply ∷ [])
 may_more book one reply may not_full automatic = by one (may automatic)
@@ -33,15 +32,15 @@ abbrev is_full : Reply → Bool
 is_full (Err QueueFull) = true
 is_full reply = false
 
-told_full : (reply : Reply) → is_full reply ≡ true → is_done (own_of reply) ≡ false
-told_full (Ok answer) e = absurd (true≢false (sym e))
-told_full (Err refusal) e = refl
+full_is_not_done : (reply : Reply) → is_full reply ≡ true → is_done (own_of reply) ≡ false
+full_is_not_done (Ok answer) e = absurd (true≢false (sym e))
+full_is_not_done (Err refusal) e = refl
 
 -- an order that met a full queue changed nothing
 full_stays : IdleLeavesTheBook → (old new : Book) (command : Command) (reply : Reply) → is_full reply ≡ true
     → Step old command reply new → new ≡ old
 full_stays leaves old new command reply e s = idle leaves old new command reply s
-    (ap is_done (sym (own_replied old new command reply s)) ∙ told_full reply e)
+    (ap is_done (sym (own_replied old new command reply s)) ∙ full_is_not_done reply e)
 
 pub stopped : ResumedBatchEndsAlike → IdleLeavesTheBook → (old mid found last end : Book) (sender : List ℕ)
     (first rest : List Command) (one two three : List Reply) → IsSound old

@@ -102,11 +102,11 @@ IsNumbered table = (table.key ≡ Some 0) × (first : Column) × (more : List Co
 
 -- How records stand in the rows of the table: each under its number, with a value for each column, and shown with its
 -- number first. A row that shows a record is its row.
-pub record IsTold {A : Type 0} (table : Table) (row shown : A → Row) (number : A → ℕ) : Type 0 where
+pub record StandsByNumber {A : Type 0} (table : Table) (row shown : A → Row) (number : A → ℕ) : Type 0 where
   pub numbered : IsNumbered table
   pub stands : (a : A) → (rowid (row a) ≡ Int (pos (number a))) × (length (row a) ≡ width table + 1)
       × (column (shown a) 0 ≡ Int (pos (number a)))
-  pub told : (r : Row) (a : A) → map (column r) (range_with_len 0 (width table + 1)) ≡ r → column r 1 ≡ Null
+  pub only : (r : Row) (a : A) → map (column r) (range_with_len 0 (width table + 1)) ≡ r → column r 1 ≡ Null
       → picked (places table) r ≡ shown a → r ≡ row a
 
 places_begin : (table : Table) (is : IsNumbered table)
@@ -121,7 +121,8 @@ AreWholeAndTyped schema trees table = AreNumberedRows (width table) (trees table
     × AllByRecursion (λ r. passes Datatype schema trees table r ≡ true) (trees table.tree)
 
 -- where the table shows records, its rows are theirs
-pub rows_are : {A : Type 0} {table : Table} {row shown : A → Row} {number : A → ℕ} → IsTold table row shown number
+pub rows_are : {A : Type 0} {table : Table} {row shown : A → Row} {number : A → ℕ}
+    → StandsByNumber table row shown number
     → (schema : Schema) (trees : Trees) (all : List A) → AreWholeAndTyped schema trees table
     → Rise (λ a. pos (number a)) all → ShowsTable table trees (map shown all) → trees table.tree ≡ map row all
 rows_are {table = table} {row = row} {shown = shown} {number = number} is schema trees all are rise same =
@@ -129,7 +130,7 @@ rows_are {table = table} {row = row} {shown = shown} {number = number} is schema
     let Typed = λ (r : Row). passes Datatype schema trees table r ≡ true in
     let Good = λ (r : Row). (length r ≡ width table + 1) × (column r 1 ≡ Null) in
     stored_are row shown number (map (place_of table) (range_with_len 1 (length is.numbered.2))) Good
-    (λ r a good e. is.told r a (by_width r _ good.0) good.1 (ap (λ ps. picked ps r) begin ∙ e)) (λ a. (is.stands a).2)
+    (λ r a good e. is.only r a (by_width r _ good.0) good.1 (ap (λ ps. picked ps r) begin ∙ e)) (λ a. (is.stands a).2)
     (trees table.tree) all are.0.0
     (all_both (λ r. IsTrue (is_int (rowid r)) × (length r ≡ width table + 1)) Typed Good (λ r is_whole passed. (
       is_whole.1,
@@ -153,7 +154,7 @@ are_numbered {A = A} count row id first all are up =
     )
 
 pub numbered_rows : {A : Type 0} {table : Table} {row shown : A → Row} {number : A → ℕ}
-    → IsTold table row shown number → (all : List A) {rows : List Row} → rows ≡ map row all
+    → StandsByNumber table row shown number → (all : List A) {rows : List Row} → rows ≡ map row all
     → Rise (λ a. pos (number a)) all → AreNumberedRows (width table) rows
 numbered_rows {table = table} {row = row} {number = number} is =
     are_numbered (width table) row (λ a. pos (number a)) (λ a. ((is.stands a).0, (is.stands a).1))

@@ -18,14 +18,14 @@ use Rattle.rtgs_book.specs.declared.Order.{Order}
 use Rattle.rtgs_book.specs.Balance.{balance}
 use Rattle.rtgs_rows.specs.Dues.{without_due, forwards_of}
 use Rattle.rtgs_rows.specs.Tables.{schema_in, known_tables, table_count, tables_in, desk_table, participant_table}
-use Rattle.rtgs_rows.specs.Tables.{posting_table, payment_table, mark_table, forward_table, resolution_table, width}
+use Rattle.rtgs_rows.specs.Tables.{posting_table, order_table, mark_table, forward_table, resolution_table, width}
 use Rattle.rtgs_rows.specs.Tables.{versions, IsVersion}
 use Rattle.rtgs_rows.specs.Migrating.{HasNoMore}
 use Rattle.rtgs_lists.proofs.Lists.{all_get}
 use Rattle.rtgs_rows.specs.TableRecords.{TableRecords, Each, HasNoMoreBeyond, records_of_tables}
 use Rattle.rtgs_rows.specs.declared.forward.Forward.{Forward}
 use Rattle.rtgs_rows.specs.declared.resolution_row.ResolutionRow.{ResolutionRow}
-use Rattle.rtgs_rows.specs.Rows.{desk_row, desk_row_of, posting_row, payment_row, mark_row, forward_row, resolution_row}
+use Rattle.rtgs_rows.specs.Rows.{desk_row, desk_row_of, posting_row, order_row, mark_row, forward_row, resolution_row}
 use Rattle.rtgs_rows.specs.Rows.{resolution_row_of, shown_desk, shown_posting, shown_order, shown_mark, shown_forward}
 use Rattle.rtgs_rows.specs.Rows.{shown_resolution}
 use Rattle.rtgs_rows.specs.Content.{Tables, tables_of_in, all_tables, tables_for_in, Holding, holding_row}
@@ -33,30 +33,30 @@ use Rattle.rtgs_rows.specs.Content.{stored_account, Content, HoldsIn, IsInOrder}
 use Rattle.rtgs_rows.specs.Keeping.{SameLists, IsBookOf, content_of}
 use Rattle.rtgs_rows.specs.Querying.{AreNumberedRows, AreWholeIn, ShowsTable, ShowsEach}
 use Rattle.rtgs_rows.proofs.Ordered.{order_of}
-use Rattle.rtgs_rows.proofs.Numbered.{IsTold, AreWholeAndTyped, rows_are, are_numbered, numbered_rows}
+use Rattle.rtgs_rows.proofs.Numbered.{StandsByNumber, AreWholeAndTyped, rows_are, are_numbered, numbered_rows}
 use Rattle.rtgs_rows.proofs.Participants.{Stores, stored_participants}
 use Rattle.rtgs_rows.specs.RowLaws.{ShownRecordsAreHeld}
 
 -- ---- the tables of numbered records
 
-desk_told : IsTold desk_table desk_row shown_desk (λ _. 1)
-desk_told = record { numbered = (refl, _, _, refl); stands = λ d. (refl, refl, refl); told = λ r d all null e. cc }
+desk_stands : StandsByNumber desk_table desk_row shown_desk (λ _. 1)
+desk_stands = record { numbered = (refl, _, _, refl); stands = λ d. (refl, refl, refl); only = λ r d all null e. cc }
 
-posting_told : IsTold posting_table posting_row shown_posting (λ p. p.number)
-posting_told = record { numbered = (refl, _, _, refl); stands = λ p. (refl, refl, refl); told = λ r p all null e. cc }
+posting_stands : StandsByNumber posting_table posting_row shown_posting (λ p. p.number)
+posting_stands = record { numbered = (refl, _, _, refl); stands = λ p. (refl, refl, refl); only = λ r p all null e. cc }
 
-order_told : IsTold payment_table payment_row shown_order (λ o. o.number)
-order_told = record { numbered = (refl, _, _, refl); stands = λ o. (refl, refl, refl); told = λ r o all null e. cc }
+order_stands : StandsByNumber order_table order_row shown_order (λ o. o.number)
+order_stands = record { numbered = (refl, _, _, refl); stands = λ o. (refl, refl, refl); only = λ r o all null e. cc }
 
-mark_told : IsTold mark_table mark_row shown_mark (λ m. m.number)
-mark_told = record { numbered = (refl, _, _, refl); stands = λ m. (refl, refl, refl); told = λ r m all null e. cc }
+mark_stands : StandsByNumber mark_table mark_row shown_mark (λ m. m.number)
+mark_stands = record { numbered = (refl, _, _, refl); stands = λ m. (refl, refl, refl); only = λ r m all null e. cc }
 
-forward_told : IsTold forward_table forward_row shown_forward (λ f. f.number)
-forward_told = record { numbered = (refl, _, _, refl); stands = λ f. (refl, refl, refl); told = λ r f all null e. cc }
+forward_stands : StandsByNumber forward_table forward_row shown_forward (λ f. f.number)
+forward_stands = record { numbered = (refl, _, _, refl); stands = λ f. (refl, refl, refl); only = λ r f all null e. cc }
 
-resolution_told : IsTold resolution_table resolution_row shown_resolution (λ _. 1)
-resolution_told =
-    record { numbered = (refl, _, _, refl); stands = λ c. (refl, refl, refl); told = λ r c all null e. cc }
+resolution_stands : StandsByNumber resolution_table resolution_row shown_resolution (λ _. 1)
+resolution_stands =
+    record { numbered = (refl, _, _, refl); stands = λ c. (refl, refl, refl); only = λ r c all null e. cc }
 
 -- the query shows of an order what it shows of it without its due date
 shown_without : (os : List Order) → map shown_order (map without_due os) ≡ map shown_order os
@@ -100,14 +100,14 @@ pub book_is_whole : (version : ℕ) (content : Content) (trees : Trees) (book : 
     → IsBookOf book content → AreWholeIn version trees
 book_is_whole version content trees book holds of =
     let order = book_in_order book content of in
-    let day = numbered_rows desk_told (desk_row_of version content.day ∷ []) refl (tt, tt) in
+    let day = numbered_rows desk_stands (desk_row_of version content.day ∷ []) refl (tt, tt) in
     let people = are_numbered (width participant_table) holding_row (λ (h : Holding). h.id) (λ h. (refl, refl))
     content.holdings refl order.ids in
-    let postings = numbered_rows posting_told content.postings refl order.postings in
-    let orders = numbered_rows order_told content.orders refl order.orders in
-    let marks = numbered_rows mark_told content.marks refl order.marks in
-    let forwards = numbered_rows forward_told content.forwards refl order.forwards in
-    let choice = numbered_rows resolution_told (resolution_row_of content.day ∷ []) refl (tt, tt) in
+    let postings = numbered_rows posting_stands content.postings refl order.postings in
+    let orders = numbered_rows order_stands content.orders refl order.orders in
+    let marks = numbered_rows mark_stands content.marks refl order.marks in
+    let forwards = numbered_rows forward_stands content.forwards refl order.forwards in
+    let choice = numbered_rows resolution_stands (resolution_row_of content.day ∷ []) refl (tt, tt) in
     first_pairs (λ t rows. AreNumberedRows (width t) rows) trees (table_count version) known_tables _
     (day, (people, (postings, (orders, (marks, (forwards, (choice, tt))))))) holds.rows
 
@@ -175,19 +175,19 @@ shown_tables_are version trees book accounts people whole shows order =
     let schema = schema_in version in
     let follow : RowsFollow schema version trees accounts book records_of_tables (all_tables version
     (content_of book people.holdings)) = (
-      λ table. rows_are desk_told schema trees (desk_row_of version book.day ∷ []) table (tt, tt),
+      λ table. rows_are desk_stands schema trees (desk_row_of version book.day ∷ []) table (tt, tt),
       (
         λ table same. people.rows_are,
         (
-          λ table. rows_are posting_told schema trees book.postings table order.postings,
+          λ table. rows_are posting_stands schema trees book.postings table order.postings,
           (
-            λ table shows. rows_are order_told schema trees book.orders table order.orders
-                (subst (ShowsTable payment_table trees) (shown_without book.orders) shows),
+            λ table shows. rows_are order_stands schema trees book.orders table order.orders
+                (subst (ShowsTable order_table trees) (shown_without book.orders) shows),
             (
-              λ table. rows_are mark_told schema trees book.marks table order.marks,
+              λ table. rows_are mark_stands schema trees book.marks table order.marks,
               (
-                λ table. rows_are forward_told schema trees (forwards_of book.orders) table order.forwards,
-                (λ table. rows_are resolution_told schema trees (resolution_row_of book.day ∷ []) table (tt, tt), tt),
+                λ table. rows_are forward_stands schema trees (forwards_of book.orders) table order.forwards,
+                (λ table. rows_are resolution_stands schema trees (resolution_row_of book.day ∷ []) table (tt, tt), tt),
               ),
             ),
           ),

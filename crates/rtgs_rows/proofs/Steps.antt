@@ -93,12 +93,12 @@ restated_fits : (number : ℕ) (state : OrderState) (o : Order) → FitsOrder o
     → FitsOrder (restated (has_number number) state o)
 restated_fits number state o h = elim (cases_Bool (has_number number o)) [
   | inl hit ↦ rw hit (record {
-    payment = record {
-      sender = h.payment.sender;
-      reference = h.payment.reference;
-      receiver = h.payment.receiver;
-      amount = h.payment.amount;
-      date = h.payment.date;
+    undated = record {
+      sender = h.undated.sender;
+      reference = h.undated.reference;
+      receiver = h.undated.receiver;
+      amount = h.undated.amount;
+      date = h.undated.date;
     };
     due = h.due;
   })
@@ -114,11 +114,11 @@ entered_number number date o = elim (cases_Bool (is_held_with number o)) [ inl h
 entered_fits : (number date : ℕ) → IsBusinessDate date → (o : Order) → FitsOrder o → FitsOrder (enters number date o)
 entered_fits number date is o h = elim (cases_Bool (is_held_with number o)) [
   | inl hit ↦ rw hit (record {
-    payment = record {
-      sender = h.payment.sender;
-      reference = h.payment.reference;
-      receiver = h.payment.receiver;
-      amount = h.payment.amount;
+    undated = record {
+      sender = h.undated.sender;
+      reference = h.undated.reference;
+      receiver = h.undated.receiver;
+      amount = h.undated.amount;
       date = is;
     };
     due = h.due;

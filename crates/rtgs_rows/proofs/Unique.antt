@@ -31,12 +31,12 @@ use Rattle.rtgs_book.specs.declared.OrderState.TheVariants.{Queued, Held, Settle
 use Rattle.rtgs_book.specs.Lookup.{accounts}
 use Rattle.rtgs_book.specs.Soundness.{CodesRise}
 use Rattle.rtgs_rows.specs.declared.numbers.TheConstants.{VERSION}
-use Rattle.rtgs_rows.specs.Rows.{date_value, phase_number, state_number, mark_value, day_row, posting_row, payment_row}
+use Rattle.rtgs_rows.specs.Rows.{date_value, phase_number, state_number, mark_value, day_row, posting_row, order_row}
 use Rattle.rtgs_rows.specs.Rows.{mark_row, forward_row, resolution_number, choice_row}
 use Rattle.rtgs_rows.specs.Dues.{without_due, forward_for, forwards_of}
 use Rattle.rtgs_rows.specs.declared.forward.Forward.{Forward}
 use Rattle.rtgs_rows.proofs.Ordered.{rises, dues_above}
-use Rattle.rtgs_rows.specs.Tables.{desk_table, participant_table, posting_table, payment_table, mark_table}
+use Rattle.rtgs_rows.specs.Tables.{desk_table, participant_table, posting_table, order_table, mark_table}
 use Rattle.rtgs_rows.specs.Tables.{forward_table, resolution_table}
 use Rattle.rtgs_rows.specs.Content.{Holding, Content, holding_row, tables_for, rows_in, Rise}
 use Rattle.rtgs_rows.specs.Fitting.{FitsDate, FitsPosting, FitsOrder, FitsMark, FitsForward}
@@ -147,9 +147,9 @@ posting_once d a b p q e =
     λ i. record { number = number i; code = code i; reference = reference i; cents = cents i; date = date i }
 
 -- the rows of orders tell them, but for their due dates
-payment_once : DatesTell → (a b : Order) → FitsOrder a → FitsOrder b → payment_row a ≡ payment_row b
+undated_once : DatesTell → (a b : Order) → FitsOrder a → FitsOrder b → order_row a ≡ order_row b
     → without_due a ≡ without_due b
-payment_once d a b p q e =
+undated_once d a b p q e =
     let number : a.number ≡ b.number = cc in
     let sender : a.sender ≡ b.sender = cc in
     let reference : a.reference ≡ b.reference = cc in
@@ -158,7 +158,7 @@ payment_once d a b p q e =
     let dates : date_text a.date ≡ date_text b.date = cc in
     let states : state_number a.state ≡ state_number b.state = cc in
     let marks : mark_value a.state ≡ mark_value b.state = cc in
-    let date = d a.date b.date p.payment.date q.payment.date dates in
+    let date = d a.date b.date p.undated.date q.undated.date dates in
     let state = state_once a.state b.state states marks in
     λ i. record {
       number = number i;
@@ -239,17 +239,17 @@ after_first (f ∷ fs) = fs
 same_order : (a b : Order) → without_due a ≡ without_due b → a.due ≡ b.due → a ≡ b
 same_order a b e due = λ i. record (e i) { due = due i }
 
--- orders whose numbers rise are told by their rows and the rows of their due dates
+-- orders whose numbers rise are given by their rows and the rows of their due dates
 orders_once : DatesTell → (xs ys : List Order) → AllByRecursion FitsOrder xs → AllByRecursion FitsOrder ys
     → Rise (λ (o : Order). pos o.number) xs → Rise (λ (o : Order). pos o.number) ys
-    → map payment_row xs ≡ map payment_row ys → forwards_of xs ≡ forwards_of ys → xs ≡ ys
+    → map order_row xs ≡ map order_row ys → forwards_of xs ≡ forwards_of ys → xs ≡ ys
 orders_once d [] [] p q up vp e f = refl
 orders_once d [] (y ∷ ys) p q up vp e f = absurd cc
 orders_once d (x ∷ xs) [] p q up vp e f = absurd cc
 orders_once d (x ∷ xs) (y ∷ ys) p q up vp e f =
-    let head : payment_row x ≡ payment_row y = cc in
-    let tail : map payment_row xs ≡ map payment_row ys = cc in
-    let same = payment_once d x y p.0 q.0 head in
+    let head : order_row x ≡ order_row y = cc in
+    let tail : map order_row xs ≡ map order_row ys = cc in
+    let same = undated_once d x y p.0 q.0 head in
     let number : x.number ≡ y.number = ap (λ (o : Order). o.number) same in
     by x.due refl y.due refl same number (dues_above x.number xs up.0) (dues_above y.number ys vp.0) f
     (λ rest. orders_once d xs ys p.1 q.1 up.1 vp.1 tail rest)
@@ -343,8 +343,8 @@ once dates one other c d h k e =
       orders = orders_once dates other.orders one.orders k.fits.orders h.fits.orders
           (rises (λ (o : Order). o.number) other.orders k.sound.orders_numbered)
           (rises (λ (o : Order). o.number) one.orders h.sound.orders_numbered)
-          (ap (map payment_row) (sym theirs.orders) ∙ sym (ap (rows_in payment_table) e)
-          ∙ ap (map payment_row) ours.orders)
+          (ap (map order_row) (sym theirs.orders) ∙ sym (ap (rows_in order_table) e)
+          ∙ ap (map order_row) ours.orders)
           (same_records (forward_once dates) theirs.forwards ours.forwards (forwards_fit other.orders k.fits.orders)
           (forwards_fit one.orders h.fits.orders) (ap (rows_in forward_table) e)) i;
       marks = same_records (mark_once dates) theirs.marks ours.marks k.fits.marks h.fits.marks

@@ -26,7 +26,7 @@ use Rattle.rtgs_rows.specs.Dues.{forward_for}
 use Rattle.rtgs_rows.specs.Tables.{no_schema, desk_schema, schema_in, known_tables, tables_in, table_count}
 use Rattle.rtgs_rows.specs.Tables.{IsVersion}
 use Rattle.rtgs_rows.specs.declared.numbers.TheConstants.{VERSION}
-use Rattle.rtgs_rows.specs.Rows.{day_row, choice_row, participant_row, posting_row, payment_row, mark_row, forward_row}
+use Rattle.rtgs_rows.specs.Rows.{day_row, choice_row, participant_row, posting_row, order_row, mark_row, forward_row}
 use Rattle.rtgs_rows.specs.declared.forward.Forward.{Forward}
 
 -- the rows of each table of a desk, in the order of the tables
@@ -55,11 +55,9 @@ pub record Holding : Type 0 where
   pub participant : Participant
   pub balance : ℤ
 
--- its row
 abbrev pub holding_row : Holding → Row
 holding_row h = participant_row h.id h.participant h.balance
 
--- its account
 abbrev pub stored_account : Holding → Account
 stored_account h = record { participant = h.participant; balance = h.balance }
 
@@ -76,7 +74,7 @@ pub record Content : Type 0 where
 -- those that these records have in all tables, with this version in that of the day
 abbrev pub all_tables : ℕ → Content → Tables
 all_tables version c = (day_row version c.day ∷ []) ∷ map holding_row c.holdings ∷ map posting_row c.postings
-    ∷ map payment_row c.orders ∷ map mark_row c.marks ∷ map forward_row c.forwards ∷ (choice_row c.day ∷ []) ∷ []
+    ∷ map order_row c.orders ∷ map mark_row c.marks ∷ map forward_row c.forwards ∷ (choice_row c.day ∷ []) ∷ []
 
 -- and in the tables of this version
 abbrev pub tables_for_in : ℕ → Content → Tables

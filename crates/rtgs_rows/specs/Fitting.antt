@@ -35,7 +35,7 @@ pub record FitsPosting (p : Posting) : Type 0 where
   pub date : FitsDate p.date
 
 -- so those of an order, but for its due date
-pub record FitsPayment (o : Order) : Type 0 where
+pub record FitsUndated (o : Order) : Type 0 where
   pub sender : IsCode o.sender
   pub reference : IsReference o.reference
   pub receiver : IsCode o.receiver
@@ -44,7 +44,7 @@ pub record FitsPayment (o : Order) : Type 0 where
 
 -- and with it
 pub record FitsOrder (o : Order) : Type 0 where
-  pub payment : FitsPayment o
+  pub undated : FitsUndated o
   pub due : FitsDate o.due
 
 -- so those of a mark

@@ -48,7 +48,7 @@ pub record Migrates {S : Type 0} (g : Ghosts S) (old new : Held S) (result : Res
   pub accepted : (version : ℕ) (book : Book) → IsOlder g version book old ⊎ HoldsBook g old book
       → IfErr result (λ fault. (fault ≡ OutOfMemory) ⊎ (fault ≡ StoreFault))
   -- and whatever rows the tables of a version have, nothing is answered but where they held a book
-  pub told : (version : ℕ) (trees : Trees) → IsFileIn version trees (state g old) → AreWholeIn version trees
+  pub answered : (version : ℕ) (trees : Trees) → IsFileIn version trees (state g old) → AreWholeIn version trees
       → IfOk result (λ wrote. (book : Book) × TellIn version book trees × HoldsBook g new book)
   -- a stop leaves the book, in tables of the one version or of the other
   pub stops : (version : ℕ) (book : Book) → IsOlder g version book old → LeavesEither g version book new

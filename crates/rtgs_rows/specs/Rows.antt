@@ -93,8 +93,8 @@ abbrev pub posting_row : Posting → Row
 posting_row p = Int (pos p.number) ∷ Null ∷ Text p.code ∷ Text p.reference ∷ Int p.cents ∷ date_value p.date ∷ []
 
 -- number, sender, reference, receiver, amount, date, state, mark; a due date stands in a table of its own
-abbrev pub payment_row : Order → Row
-payment_row o = Int (pos o.number) ∷ Null ∷ Text o.sender ∷ Text o.reference ∷ Text o.receiver ∷ Int (pos o.amount)
+abbrev pub order_row : Order → Row
+order_row o = Int (pos o.number) ∷ Null ∷ Text o.sender ∷ Text o.reference ∷ Text o.receiver ∷ Int (pos o.amount)
     ∷ Text (date_text o.date) ∷ Int (pos (state_number o.state)) ∷ mark_value o.state ∷ []
 
 -- number, date, many, value

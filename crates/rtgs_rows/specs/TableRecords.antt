@@ -9,16 +9,15 @@ use Rattle.rtgs_book.specs.declared.Order.{Order}
 use Rattle.rtgs_book.specs.declared.Mark.{Mark}
 use Rattle.rtgs_book.specs.Books.{new_book}
 use Rattle.rtgs_rows.specs.Dues.{without_due, forwards_of}
-use Rattle.rtgs_rows.specs.Fitting.{FitsDate, FitsParticipant, FitsPosting, FitsPayment, FitsMark, FitsForward}
+use Rattle.rtgs_rows.specs.Fitting.{FitsDate, FitsParticipant, FitsPosting, FitsUndated, FitsMark, FitsForward}
 use Rattle.rtgs_rows.specs.declared.forward.Forward.{Forward}
 use Rattle.rtgs_rows.specs.declared.desk_row.DeskRow.{DeskRow}
 use Rattle.rtgs_rows.specs.declared.resolution_row.ResolutionRow.{ResolutionRow}
 use Rattle.rtgs_rows.specs.Rows.{desk_row_of, resolution_row_of, shown_desk, shown_account, shown_posting, shown_order}
 use Rattle.rtgs_rows.specs.Rows.{shown_mark, shown_forward, shown_resolution}
-use Rattle.rtgs_rows.specs.Tables.{desk_table, participant_table, posting_table, payment_table, mark_table}
+use Rattle.rtgs_rows.specs.Tables.{desk_table, participant_table, posting_table, order_table, mark_table}
 use Rattle.rtgs_rows.specs.Tables.{forward_table, resolution_table, table_count}
 
--- the records of a table
 pub record TableRecords (A : Type 0) : Type 1 where
   pub table : Table
   -- the row that the query shows of a record
@@ -60,9 +59,9 @@ posting_records = record {
 -- a row of an order does not show its due date
 abbrev pub order_records : TableRecords Order
 order_records = record {
-  table = payment_table;
+  table = order_table;
   shown = shown_order;
-  fits = λ order. FitsPayment order × (order.due ≡ None);
+  fits = λ order. FitsUndated order × (order.due ≡ None);
   counted = true ∷ false ∷ false ∷ false ∷ false ∷ false ∷ false ∷ true ∷ [];
   of_book = λ version accounts book. map without_due book.orders;
 }

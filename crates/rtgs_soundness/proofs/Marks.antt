@@ -14,7 +14,7 @@ use Rattle.rtgs_book.specs.declared.Mark.{Mark}
 use Rattle.rtgs_book.specs.declared.OrderState.TheVariants.{Queued, Held, Settled, Withdrawn, Rejected}
 use Rattle.rtgs_book.specs.Soundness.{AreNumbered, HasMark, is_state_under, orders_under, CountsItsOrders}
 use Rattle.rtgs_book.specs.Soundness.{MarksFitOrders}
-use Rattle.rtgs_soundness.specs.declared.rules.tally.Tally.{Tally}
+use Rattle.rtgs_soundness.specs.declared.rules.mark_tally.MarkTally.{MarkTally}
 use Rattle.rtgs_soundness.specs.Tallies.{AreTallies, IsCounted, IsTallyWithin, tally_at, tally_of_mark, with_amount}
 use Rattle.rtgs_money.specs.declared.amount.TheConstants.Amount as Amount
 use Rattle.rtgs_soundness.proofs.Totals.{count_is_sum, amounts_are_sum, sum_pushed}
@@ -117,19 +117,20 @@ tally_kept orders o mark h = tally_pushed orders o mark
     o.state h)
 
 -- each bound is the larger by one amount
-pub within_wider : (bound : ℕ) (tally : Tally) → IsTallyWithin bound tally → IsTallyWithin (bound + Amount.MAX) tally
+pub within_wider : (bound : ℕ) (tally : MarkTally) → IsTallyWithin bound tally
+    → IsTallyWithin (bound + Amount.MAX) tally
 within_wider bound tally h =
     let a = h.0.0 in let b = h.0.1 in let c = h.1.0 in let d = h.1.1 in
     ((omega (arith, ints), omega (arith, ints)), (omega (arith, ints), omega (arith, ints)))
 
-pub within_more : (bound amount : ℕ) (tally : Tally) → amount ≤ Amount.MAX → IsTallyWithin bound tally
+pub within_more : (bound amount : ℕ) (tally : MarkTally) → amount ≤ Amount.MAX → IsTallyWithin bound tally
     → IsTallyWithin (bound + Amount.MAX) (with_amount amount tally)
 within_more bound amount tally few h =
     let a = h.0.0 in let b = h.0.1 in let c = h.1.0 in let d = h.1.1 in
     ((omega (arith, ints), omega (arith, ints)), (omega (arith, ints), omega (arith, ints)))
 
 -- the tally at a mark's place is of its orders
-pub tally_here : (orders : List Order) (tallies : List Tally) (marks : List Mark) (place : ℕ) (m : Mark)
+pub tally_here : (orders : List Order) (tallies : List MarkTally) (marks : List Mark) (place : ℕ) (m : Mark)
     → AreNumbered (map (λ (m : Mark). m.number) marks) → length tallies ≡ length marks → place < length marks
     → m ≡ get_or marks place m → AreTallies orders tallies → tally_at tallies place ≡ tally_of_mark orders m.number
 tally_here orders tallies marks place m numbered same within is are =
@@ -144,7 +145,7 @@ pub tallies_of : (book : Book) (b : Bool) → AllByRecursion (λ (o : Order). Ha
     book.orders → (b ≡ true) ↔ AllByRecursion (λ (m : Mark). IsCounted m (tally_of_mark book.orders m.number))
     book.marks
     → (b ≡ true) ↔ MarksFitOrders book
-tallies_of book b orders told = (
+tallies_of book b orders judged = (
   λ e. (
     orders,
     all_weaker (λ (m : Mark). IsCounted m (tally_of_mark book.orders m.number)) (CountsItsOrders book)
@@ -152,9 +153,9 @@ tallies_of book b orders told = (
           some = k.some;
           count = same_count _ _ (k.count ∙ count_is_sum (orders_under book m.number));
           value = k.value ∙ amounts_are_sum (λ (o : Order). o.amount) (orders_under book m.number);
-        }) book.marks (told.0 e),
+        }) book.marks (judged.0 e),
   ),
-  λ fit. told.1 (all_weaker (CountsItsOrders book) (λ (m : Mark). IsCounted m (tally_of_mark book.orders m.number))
+  λ fit. judged.1 (all_weaker (CountsItsOrders book) (λ (m : Mark). IsCounted m (tally_of_mark book.orders m.number))
       (λ m k. record {
         some = k.some;
         count = ap pos k.count ∙ sym (count_is_sum (orders_under book m.number));

@@ -169,6 +169,6 @@ pub total_by_issue : (book : Book) (b : Bool) → total book ≡ issued book
     → (b ≡ true) ↔ (int_sum_by (λ (p : Posting). p.cents) book.postings ≤ℤ pos LARGEST_TOTAL)
     → (b ≡ true) ↔ TotalFits book
 unfolding issued
-total_by_issue book b is_issued told =
+total_by_issue book b is_issued judged =
     let same : total book ≡ int_sum_by (λ (p : Posting). p.cents) book.postings = is_issued in
-    (λ e. rw same (told.0 e), λ fits. told.1 (rw same at fits))
+    (λ e. rw same (judged.0 e), λ fits. judged.1 (rw same at fits))

@@ -63,7 +63,6 @@ module _ {K : Type 0} (cmp : K → K → Ordering) (keys : List K) where
           adds q ∙ ap (λ b. cond b (option_map (λ total. total +ℤ by) (get cmp m k)) (get cmp m q)) e ∙ h q
           ∙ ap (λ y. cond (is_member (eq_by_cmp cmp) keys q) (Some y) None) (kept (f q))
 
-  -- the same sums
   pub totals_same : (f g : K → ℤ) (m : BTreeMap K ℤ) → ((q : K) → f q ≡ g q) → Totals cmp keys f m → Totals cmp keys g m
   totals_same f g m same h q = h q ∙ ap (λ y. cond (is_member (eq_by_cmp cmp) keys q) (Some y) None) (same q)
 

@@ -5,7 +5,7 @@ mod mark;
 mod order;
 mod posting;
 
-/// A record that is numbered and bears a date.
+/// A record that is numbered and has a date.
 pub trait Recorded {
     ghost number_of: { Self → ℕ };
 

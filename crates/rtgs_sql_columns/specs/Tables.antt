@@ -3,7 +3,6 @@ use Rattle.std.specs.Prelude.{ℕ, List, [], ◌∷◌, ◌++◌, codes, map}
 use Rattle.sqlite.specs.Table.{Table}
 use Rattle.sqlite_schema.specs.declared.schema.Column.{Column}
 
--- the names of its columns
 abbrev pub column_names : Table → List (List ℕ)
 column_names table = map (λ (column : Column). column.name) table.columns
 

@@ -43,7 +43,6 @@ pub fn check_mark(state: OrderState) -> Result<(), Error>
     }
 }
 
-/// A number.
 pub fn number_value(n: u64) -> ValueRef<'static>
     requires { n < 2 ^ 63 }
     ensures { owned result ≡ Int (pos n) }
@@ -128,25 +127,23 @@ pub fn cents_value(cents: Cents) -> ValueRef<'static>
     ValueRef::Int(cents.cents())
 }
 
-/// The bytes of a text.
 pub fn text(bytes: &[u8]) -> ValueRef<'_>
     ensures { owned result ≡ TextValue bytes.now }
 {
     ValueRef::Text(bytes)
 }
 
-/// The bytes of a blob.
 pub fn blob(bytes: &[u8]) -> ValueRef<'_>
     ensures { owned result ≡ Blob bytes.now }
 {
     ValueRef::Blob(bytes)
 }
 
-/// The text of a date.
 fn text_of_date(date: BusinessDate) -> Text<10>
     ensures text { result ≡ date_text date }
     ensures in_range { IsBusinessDate date }
 {
+    // States that the date is in its range, which the text does not state.
     date.number();
     date.text()
 }
@@ -162,7 +159,6 @@ pub fn text_of(date: Option<BusinessDate>) -> Option<Text<10>>
     }
 }
 
-/// A text, or null.
 pub fn text_or_null(text: &Option<Text<10>>) -> ValueRef<'_>
     ensures { owned result ≡ or_null TextValue text.now }
 {

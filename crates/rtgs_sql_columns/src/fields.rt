@@ -25,7 +25,6 @@ pub fn width(row: &Row, wide: usize) -> Option<()>
     }
 }
 
-/// A whole number.
 pub fn int(row: &Row, at: usize) -> Option<i64>
     ensures found { (n : ℤ) → at < length row.now → column row.now at ≡ Int n → result ≡ Some n }
     ensures is { IfSome result (λ n. column row.now at ≡ Int n) }
@@ -96,7 +95,6 @@ pub fn is_null(row: &Row, at: usize) -> bool
     matches!(row.get_ref(at), Ok(ValueRef::Null))
 }
 
-/// A participant's code.
 pub fn code(row: &Row, at: usize) -> Option<Code>
     ensures found { (code : List ℕ) → IsCode code → at < length row.now → column row.now at ≡ Text code
         → result ≡ Some code }
@@ -105,7 +103,6 @@ pub fn code(row: &Row, at: usize) -> Option<Code>
     Code::read(text(row, at)?).ok()
 }
 
-/// A reference.
 pub fn reference(row: &Row, at: usize) -> Option<Reference>
     ensures found { (reference : List ℕ) → IsReference reference → at < length row.now
         → column row.now at ≡ Text reference → result ≡ Some reference }
@@ -114,7 +111,6 @@ pub fn reference(row: &Row, at: usize) -> Option<Reference>
     Reference::read(text(row, at)?).ok()
 }
 
-/// A participant's name.
 pub fn name(row: &Row, at: usize) -> Option<Name>
     ensures found { (name : List ℕ) → IsName name → at < length row.now → column row.now at ≡ Text name
         → result ≡ Some name }
@@ -123,7 +119,6 @@ pub fn name(row: &Row, at: usize) -> Option<Name>
     Name::read(text(row, at)?).ok()
 }
 
-/// A business date.
 pub fn date(row: &Row, at: usize) -> Option<BusinessDate>
     ensures found { (date : ℕ) → IsBusinessDate date → at < length row.now → column row.now at ≡ Text (date_text date)
         → result ≡ Some date }

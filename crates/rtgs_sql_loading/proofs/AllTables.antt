@@ -29,7 +29,7 @@ use Rattle.rtgs_sql_queries.specs.Records.{HasRecords}
 use Rattle.rtgs_sql_loading.specs.Accounts.{Telling, TellsOf, AreTheRecords, AreFormed, IsDeskOf, InForm}
 use Rattle.rtgs_sql_loading.specs.Displaying.{IsUnread, ShowsNoChoice, IsIllegible}
 use Rattle.rtgs_sql_loading.specs.Joining.{AreJoined}
-use Rattle.rtgs_sql_loading.specs.Loading.{IsToldBy, ReadsRecords, TellsRecords}
+use Rattle.rtgs_sql_loading.specs.Loading.{HasRows, ReadsRecords, TellsRecords}
 use Rattle.rtgs_sql_loading.proofs.Joining.{joined_once, joined_fit, joined_held}
 use Rattle.rtgs_sql_loading.proofs.Dues.{book_joined}
 use Rattle.rtgs_sql_loading.proofs.OwnRows.{IsOwn, owns, all_own, posting_own, order_own, mark_own, forward_own}
@@ -47,8 +47,9 @@ each_both on (records ∷ more) one other =
 -- so with what is said of the records of the tables
 pub both : {version : ℕ} {P Q R : Telling} {accounts : List Account} {book : Book}
     → AreTheRecords version P accounts book → AreTheRecords version Q accounts book
-    → ((table : Table) (counted : List Bool) (told : List Row) → P table counted told → Q table counted told
-    → R table counted told) → AreTheRecords version R accounts book
+    → ((table : Table) (counted : List Bool) (seen_rows : List Row) → P table counted seen_rows
+    → Q table counted seen_rows
+    → R table counted seen_rows) → AreTheRecords version R accounts book
 both {version = version} {P = P} {Q = Q} {R = R} {accounts = accounts} {book = book} one other on = record {
   fits = one.fits;
   dues = one.dues;
@@ -60,9 +61,10 @@ both {version = version} {P = P} {Q = Q} {R = R} {accounts = accounts} {book = b
 }
 
 weaker : {version : ℕ} {P Q : Telling} {accounts : List Account} {book : Book} → AreTheRecords version P accounts book
-    → ((table : Table) (counted : List Bool) (told : List Row) → P table counted told → Q table counted told)
+    → ((table : Table) (counted : List Bool) (seen_rows : List Row) → P table counted seen_rows
+    → Q table counted seen_rows)
     → AreTheRecords version Q accounts book
-weaker are on = both are are (λ table counted told tells _. on table counted told tells)
+weaker are on = both are are (λ table counted seen_rows tells _. on table counted seen_rows tells)
 
 -- due dates stand under the numbers of their orders
 dues_numbered : (os : List Order) → AllByRecursion IsNumberedOrder os
@@ -184,20 +186,20 @@ pub tells : (version : ℕ) → IsVersion version → (s : State) (accounts : Li
     → book.participants ≡ map (λ (a : Account). a.participant) accounts → ComeOfRows book.orders
     → ReadsEach version s accounts book → TellsRecords version s accounts book
 tells version known s accounts book named joined reads =
-    let told : AreTheRecords version (IsToldBy version s) accounts book = record {
+    let all_records : AreTheRecords version (HasRows version s) accounts book = record {
       fits = all_fit version s accounts book named joined reads;
       dues = joined_held (map without_due book.orders) (forwards_of book.orders) book.orders joined;
       named = named;
       no_more = none_beyond version known s accounts book reads;
       tells = each_both {P = Has version}
           {Q = λ A records. ReadsRecords version records s (records.of_book version accounts book)}
-          {R = TellsOf version (IsToldBy version s) accounts book} (λ A records has read. read.told has)
+          {R = TellsOf version (HasRows version s) accounts book} (λ A records has read. read.has_rows has)
           (records_in version) (has_counted version known) (each_first _ (table_count version) records_of_tables reads);
     } in
     record {
       records = are_the_tables version s accounts book named joined reads;
-      rows = λ trees file. weaker told (λ table counted rows is. is.0 trees file);
-      displayed = weaker told (λ table counted rows is. is.1);
+      rows = λ trees file. weaker all_records (λ table counted rows is. is.0 trees file);
+      displayed = weaker all_records (λ table counted rows is. is.1);
     }
 
 -- ---- why they are not read

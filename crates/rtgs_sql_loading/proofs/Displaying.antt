@@ -21,7 +21,7 @@ use Rattle.rtgs_rows.specs.Keeping.{AreBalances}
 use Rattle.rtgs_sql_loading.specs.Accounts.{ExplainsRead}
 use Rattle.rtgs_sql_loading.specs.Displaying.{IsUnread, IsIllegible, ExplainsDatabase, AreDisplayed, IsDisplayed}
 use Rattle.rtgs_sql_loading.proofs.AboveZero.{above_zero}
-use Rattle.rtgs_sql_loading.proofs.OwnRows.{IsOwn, read_plainly}
+use Rattle.rtgs_sql_loading.proofs.OwnRows.{IsOwn, read_unchanged}
 use Rattle.rtgs_sql_loading.proofs.AllTables.{both, own_records}
 
 -- ---- what a query shows
@@ -58,32 +58,32 @@ displayed_book version db accounts book (Ok it) read is sound agree =
     subst (IsDisplayed version db) (sym is) (
       accounts,
       agree,
-      both (own_records read low) read (λ table counted told own shows.
-          let plain = read_plainly counted shows.0 (subst (AllByRecursion (IsOwn counted)) (sym shows.2) own) in
+      both (own_records read low) read (λ table counted seen_rows own shows.
+          let plain = read_unchanged counted shows.0 (subst (AllByRecursion (IsOwn counted)) (sym shows.2) own) in
           subst (Displays db (query_text table)) (sym plain ∙ shows.2) shows.1),
     )
 displayed_book version db accounts book (Err fault) read is sound agree = tt
 
 -- what was read was judged
-pub told_of_book : (version : ℕ) (db : Database) (accounts : List Account) (book : Book) (answer : Result Book Fault)
+pub explains_book : (version : ℕ) (db : Database) (accounts : List Account) (book : Book) (answer : Result Book Fault)
     → AreDisplayed version db accounts book → IfErr answer (ExplainsRead accounts book)
     → IfErr answer (ExplainsDatabase version db)
-told_of_book version db accounts book (Ok it) read why = tt
-told_of_book version db accounts book (Err OutOfMemory) read why = tt
-told_of_book version db accounts book (Err StoreFault) read why = tt
-told_of_book version db accounts book (Err NotADeskFile) read why = absurd why
-told_of_book version db accounts book (Err (Inconsistent rule)) read why = (accounts, book, read, why)
+explains_book version db accounts book (Ok it) read why = tt
+explains_book version db accounts book (Err OutOfMemory) read why = tt
+explains_book version db accounts book (Err StoreFault) read why = tt
+explains_book version db accounts book (Err NotADeskFile) read why = absurd why
+explains_book version db accounts book (Err (Inconsistent rule)) read why = (accounts, book, read, why)
 
 -- nothing was read
-pub told_of_none : {A : Type 0} (version : ℕ) (db : Database) (read : Result A Fault) (fault : Fault)
+pub explains_none : {A : Type 0} (version : ℕ) (db : Database) (read : Result A Fault) (fault : Fault)
     (answer : Result Book Fault)
     → (read ≡ Err NotADeskFile → IsIllegible version db) → ((rule : Rule) → read ≢ Err (Inconsistent rule))
-    → read ≡ Err fault → IsErrAnd answer (λ told. told ≡ fault) → IfErr answer (ExplainsDatabase version db)
-told_of_none version db read fault (Ok it) wrong rules was told = tt
-told_of_none version db read OutOfMemory (Err it) wrong rules was told =
-    subst (ExplainsDatabase version db) (sym told) tt
-told_of_none version db read StoreFault (Err it) wrong rules was told =
-    subst (ExplainsDatabase version db) (sym told) tt
-told_of_none version db read NotADeskFile (Err it) wrong rules was told =
-    subst (ExplainsDatabase version db) (sym told) (wrong was)
-told_of_none version db read (Inconsistent rule) (Err it) wrong rules was told = absurd (rules rule was)
+    → read ≡ Err fault → IsErrAnd answer (λ passed. passed ≡ fault) → IfErr answer (ExplainsDatabase version db)
+explains_none version db read fault (Ok it) wrong rules was passed = tt
+explains_none version db read OutOfMemory (Err it) wrong rules was passed =
+    subst (ExplainsDatabase version db) (sym passed) tt
+explains_none version db read StoreFault (Err it) wrong rules was passed =
+    subst (ExplainsDatabase version db) (sym passed) tt
+explains_none version db read NotADeskFile (Err it) wrong rules was passed =
+    subst (ExplainsDatabase version db) (sym passed) (wrong was)
+explains_none version db read (Inconsistent rule) (Err it) wrong rules was passed = absurd (rules rule was)

@@ -65,8 +65,9 @@ found_dues {forwards = forwards} list (inr (lacks, none)) = record {
     nothing (f ∷ fs) read = absurd cc
 
 -- these rows are not those of orders
-apart : {version : ℕ} {s : State} {payments : List Order} {forwards : List Forward}
-    → ((all : List Order) → ¬ AreJoined payments forwards all) → (own : ReadsRows version order_records s payments)
+apart : {version : ℕ} {s : State} {undated_orders : List Order} {forwards : List Forward}
+    → ((all : List Order) → ¬ AreJoined undated_orders forwards all)
+    → (own : ReadsRows version order_records s undated_orders)
     → (found : FoundDues version s forwards) → ¬ AreOrders own.rows found.rows
 apart none own found are =
     none are.orders (subst₂ (λ (ps : List Order) (fs : List Forward). AreJoined ps fs are.orders)
@@ -74,15 +75,15 @@ apart none own found are =
     (sym (found.only are.forwards are.forwards_fit are.forwards_read)) are.joined)
 
 -- where they do not fit together, the tables are in no form, and their queries show it
-pub stops_apart : {A : Type 0} {version : ℕ} {old new : State} (payments : List Order) (forwards : List Forward)
+pub stops_apart : {A : Type 0} {version : ℕ} {old new : State} (undated_orders : List Order) (forwards : List Forward)
     (answer : Result A Fault) → ReadsOn old new
-    → (HasCleanDisk new → ReadsList version order_records old payments)
+    → (HasCleanDisk new → ReadsList version order_records old undated_orders)
     → (HasCleanDisk new → ReadsList version forward_records old forwards)
-    → ((all : List Order) → ¬ AreJoined payments forwards all)
+    → ((all : List Order) → ¬ AreJoined undated_orders forwards all)
     → Stops version old new answer (λ trees. ¬ AreFormed version trees) (IsIllegible version)
-stops_apart {version = version} {old = old} payments forwards answer on orders dues none = record {
+stops_apart {version = version} {old = old} undated_orders forwards answer on orders dues none = record {
   right = λ clean accounts book held e.
-      let given : AreJoined payments forwards book.orders =
+      let given : AreJoined undated_orders forwards book.orders =
       subst₂ (λ (ps : List Order) (fs : List Forward). AreJoined ps fs book.orders)
       (sym ((orders clean).reads.given accounts book held)) (sym ((dues clean).reads.given accounts book held))
       (book_joined accounts book held) in

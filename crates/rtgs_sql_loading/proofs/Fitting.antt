@@ -47,7 +47,7 @@ abbrev due_number : Forward → ℕ
 due_number f = f.number
 
 abbrev FindOrders : List Order → List Forward → Type 0
-FindOrders payments = AllByRecursion (λ (f : Forward). HasNumber order_number payments f.number)
+FindOrders undated_orders = AllByRecursion (λ (f : Forward). HasNumber order_number undated_orders f.number)
 
 abbrev FindDues : List Forward → List Order → Type 0
 FindDues forwards = AllByRecursion (λ (o : Order). is_held o ≡ true → HasNumber due_number forwards o.number)
@@ -132,5 +132,7 @@ fits (p ∷ ps) fs (o ∷ orders) joined = by joined.1 (fits ps joined.0 orders 
     })
 
 pub both_ways : WhatFitsIsJoined
-both_ways payments forwards up rise =
-    ((λ fit. join payments forwards up rise fit.orders fit.dues), (λ made. fits payments forwards made.0 made.1))
+both_ways undated_orders forwards up rise = (
+  (λ fit. join undated_orders forwards up rise fit.orders fit.dues),
+  (λ made. fits undated_orders forwards made.0 made.1),
+)

@@ -35,19 +35,20 @@ use Rattle.sqlite.specs.Tree.{Trees}
 
 -- a `?` answers the fault that it meets
 pub same_fault : {A B : Type 0} (met : Result A Fault) (fault kind : Fault) (answer : Result B Fault) → met ≡ Err fault
-    → IsErrAnd answer (λ told. told ≡ fault) → answer ≡ Err kind → met ≡ Err kind
-same_fault met fault kind (Ok b) was told e = absurd (let clash : ◌≡◌ {A = Result _ Fault} (Ok b) (Err kind) = e in cc)
-same_fault met fault kind (Err told_fault) was told e =
-    let is : told_fault ≡ kind = cc in
-    was ∙ ap Err (sym told ∙ is)
+    → IsErrAnd answer (λ passed. passed ≡ fault) → answer ≡ Err kind → met ≡ Err kind
+same_fault met fault kind (Ok b) was passed e =
+    absurd (let clash : ◌≡◌ {A = Result _ Fault} (Ok b) (Err kind) = e in cc)
+same_fault met fault kind (Err passed_fault) was passed e =
+    let is : passed_fault ≡ kind = cc in
+    was ∙ ap Err (sym passed ∙ is)
 
 -- and answers that fault
 pub answered : {A B : Type 0} (met : Result A Fault) (fault kind : Fault) (answer : Result B Fault) → met ≡ Err fault
-    → IsErrAnd answer (λ told. told ≡ fault) → met ≡ Err kind → answer ≡ Err kind
-answered met fault kind (Ok b) was told e = absurd told
-answered met fault kind (Err told_fault) was told e =
+    → IsErrAnd answer (λ passed. passed ≡ fault) → met ≡ Err kind → answer ≡ Err kind
+answered met fault kind (Ok b) was passed e = absurd passed
+answered met fault kind (Err passed_fault) was passed e =
     let is : fault ≡ kind = cc in
-    ap Err (told ∙ is)
+    ap Err (passed ∙ is)
 
 -- what was read was judged
 pub judged_book : (stored accounts : List Account) (read book : Book) (answer : Result Book Fault) → read ≡ book
@@ -60,26 +61,27 @@ judged_book stored accounts read book (Err fault) same alike given agree = tt
 -- nothing was read, for no fault of the tables
 pub unread : {A : Type 0} (accounts : List Account) (book : Book) (read : Result A Fault) (fault : Fault)
     (answer : Result Book Fault) → read ≢ Err NotADeskFile → ((rule : Rule) → read ≢ Err (Inconsistent rule))
-    → read ≡ Err fault → IsErrAnd answer (λ told. told ≡ fault) → IfErr answer (ExplainsRead accounts book)
-unread accounts book read fault (Ok it) form rules was told = tt
-unread accounts book read OutOfMemory (Err it) form rules was told = subst (ExplainsRead accounts book) (sym told) tt
-unread accounts book read StoreFault (Err it) form rules was told = subst (ExplainsRead accounts book) (sym told) tt
-unread accounts book read NotADeskFile (Err it) form rules was told = absurd (form was)
-unread accounts book read (Inconsistent rule) (Err it) form rules was told = absurd (rules rule was)
+    → read ≡ Err fault → IsErrAnd answer (λ passed. passed ≡ fault) → IfErr answer (ExplainsRead accounts book)
+unread accounts book read fault (Ok it) form rules was passed = tt
+unread accounts book read OutOfMemory (Err it) form rules was passed =
+    subst (ExplainsRead accounts book) (sym passed) tt
+unread accounts book read StoreFault (Err it) form rules was passed = subst (ExplainsRead accounts book) (sym passed) tt
+unread accounts book read NotADeskFile (Err it) form rules was passed = absurd (form was)
+unread accounts book read (Inconsistent rule) (Err it) form rules was passed = absurd (rules rule was)
 
 -- nothing was read of tables: a row is in no form, or the store failed or memory was refused
 pub unread_of : {A : Type 0} (version : ℕ) (trees : Trees) (read : Result A Fault) (fault : Fault)
     (answer : Result Book Fault)
     → (read ≡ Err NotADeskFile → ¬ AreFormed version trees) → ((rule : Rule) → read ≢ Err (Inconsistent rule))
-    → read ≡ Err fault → IsErrAnd answer (λ told. told ≡ fault) → IfErr answer (ExplainsTrees version trees)
-unread_of version trees read fault (Ok it) wrong rules was told = tt
-unread_of version trees read OutOfMemory (Err it) wrong rules was told =
-    subst (ExplainsTrees version trees) (sym told) tt
-unread_of version trees read StoreFault (Err it) wrong rules was told =
-    subst (ExplainsTrees version trees) (sym told) tt
-unread_of version trees read NotADeskFile (Err it) wrong rules was told =
-    subst (ExplainsTrees version trees) (sym told) (wrong was)
-unread_of version trees read (Inconsistent rule) (Err it) wrong rules was told = absurd (rules rule was)
+    → read ≡ Err fault → IsErrAnd answer (λ passed. passed ≡ fault) → IfErr answer (ExplainsTrees version trees)
+unread_of version trees read fault (Ok it) wrong rules was passed = tt
+unread_of version trees read OutOfMemory (Err it) wrong rules was passed =
+    subst (ExplainsTrees version trees) (sym passed) tt
+unread_of version trees read StoreFault (Err it) wrong rules was passed =
+    subst (ExplainsTrees version trees) (sym passed) tt
+unread_of version trees read NotADeskFile (Err it) wrong rules was passed =
+    subst (ExplainsTrees version trees) (sym passed) (wrong was)
+unread_of version trees read (Inconsistent rule) (Err it) wrong rules was passed = absurd (rules rule was)
 
 -- what was read of tables was judged
 pub judged_of : (version : ℕ) (trees : Trees) (accounts : List Account) (book : Book) (answer : Result Book Fault)

@@ -6,7 +6,7 @@ pub mod Fitting
 pub mod Dues
 pub mod AllTables
 pub mod AboveZero
-pub mod Told
+pub mod Records
 pub mod Displaying
 pub mod Blank
 pub mod Judging

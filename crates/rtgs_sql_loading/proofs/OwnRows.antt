@@ -101,7 +101,7 @@ forward_own (v ∷ row) f low e = ap₂ ◌∷◌ (above_in v f.number low (head
 -- ---- what is read as a row is the row itself
 
 abbrev pub IsOwn : List Bool → Row → Type 0
-IsOwn counted told = (row : Row) → as_read counted row ≡ told → row ≡ told
+IsOwn counted seen_rows = (row : Row) → as_read counted row ≡ seen_rows → row ≡ seen_rows
 
 -- the rows of records with numbers above zero are such
 pub owns : {A : Type 0} (records : TableRecords A) (numbered : A → Type 0)
@@ -113,13 +113,14 @@ owns records numbered own (a ∷ all) low = (λ row e. own row a low.0 e, owns r
 -- so is each, where no number is read in another way
 pub all_own : (rows : List Row) → AllByRecursion (IsOwn []) rows
 all_own [] = tt
-all_own (told ∷ rows) = (λ row e. e, all_own rows)
+all_own (seen_rows ∷ rows) = (λ row e. e, all_own rows)
 
 -- so the rows are read as they are
-pub read_plainly : (counted : List Bool) (rows : List Row) → AllByRecursion (IsOwn counted) (map (as_read counted) rows)
+pub read_unchanged : (counted : List Bool) (rows : List Row)
+    → AllByRecursion (IsOwn counted) (map (as_read counted) rows)
     → map (as_read counted) rows ≡ rows
-read_plainly counted [] own = refl
-read_plainly counted (row ∷ rows) own = ap₂ ◌∷◌ (sym (own.0 row refl)) (read_plainly counted rows own.1)
+read_unchanged counted [] own = refl
+read_unchanged counted (row ∷ rows) own = ap₂ ◌∷◌ (sym (own.0 row refl)) (read_unchanged counted rows own.1)
 
 -- the rows of records are in their forms
 pub are_formed : {A : Type 0} (records : TableRecords A) (all : List A) → AllByRecursion records.fits all

@@ -47,21 +47,21 @@ kept_on {version = version} accounts book old new keeps held =
 -- one that stops: its fault is answered
 pub stops_after : {A B : Type 0} {version : ℕ} {a b c : State} {Bad Wrong : Trees → Type 0}
     {Unread Illegible : Database → Type 0} (met : Result A Fault) (fault : Fault) (answer : Result B Fault)
-    → ReadsOn a b → met ≡ Err fault → IsErrAnd answer (λ told. told ≡ fault)
+    → ReadsOn a b → met ≡ Err fault → IsErrAnd answer (λ passed. passed ≡ fault)
     → (IsVersion version → (trees : Trees) → Bad trees → Wrong trees)
     → (IsVersion version → (db : Database) → Unread db → Illegible db)
     → Stops version b c met Bad Unread → Stops version a c answer Wrong Illegible
-stops_after {version = version} {b = b} {c = c} {Unread = Unread} met fault answer on was told wrong illegible stops =
+stops_after {version = version} {b = b} {c = c} {Unread = Unread} met fault answer on was passed wrong illegible stops =
     let honest = was_clean b c stops.survives in
     record {
       right = λ clean accounts book held e. stops.right clean accounts book (kept_on accounts book _ _
-          (on.keeps (honest clean)) held) (same_fault met fault NotADeskFile answer was told e);
+          (on.keeps (honest clean)) held) (same_fault met fault NotADeskFile answer was passed e);
       wrong = λ clean trees file e. wrong file.known trees (stops.wrong clean trees
-          ((on.keeps (honest clean)).file version trees file) (same_fault met fault NotADeskFile answer was told e));
+          ((on.keeps (honest clean)).file version trees file) (same_fault met fault NotADeskFile answer was passed e));
       unread = λ clean known e. illegible known _ (subst Unread (on.same (honest clean)) (stops.unread clean known
-          (same_fault met fault NotADeskFile answer was told e)));
+          (same_fault met fault NotADeskFile answer was passed e)));
       same = λ clean other. keeps_then _ _ _ (on.keeps (honest clean)) (stops.same clean
-          (λ e. other (answered met fault StoreFault answer was told e)));
+          (λ e. other (answered met fault StoreFault answer was passed e)));
       survives = survives_on _ _ _ on.survives stops.survives;
     }
 
@@ -78,10 +78,10 @@ stops_never {version = version} answer on not = record {
 }
 
 -- memory was refused
-pub not_foreign : {A : Type 0} (answer : Result A Fault) → IsErrAnd answer (λ told. told ≡ OutOfMemory)
+pub not_foreign : {A : Type 0} (answer : Result A Fault) → IsErrAnd answer (λ passed. passed ≡ OutOfMemory)
     → answer ≢ Err NotADeskFile
-not_foreign (Ok it) told e = absurd told
-not_foreign (Err fault) told e =
+not_foreign (Ok it) passed e = absurd passed
+not_foreign (Err fault) passed e =
     let is : fault ≡ NotADeskFile = cc in
-    let clash : OutOfMemory ≡ NotADeskFile = sym told ∙ is in
+    let clash : OutOfMemory ≡ NotADeskFile = sym passed ∙ is in
     absurd cc

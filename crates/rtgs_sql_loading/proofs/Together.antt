@@ -17,7 +17,7 @@ use Rattle.rtgs_book.specs.declared.account.Account.{Account}
 use Rattle.rtgs_sql_loading.specs.Accounts.{AreTheRecords, AreReadOf, IsShown}
 use Rattle.rtgs_sql_columns.specs.Numbers.{IsNumberedBook}
 use Rattle.rtgs_sql_loading.proofs.AllTables.{both, own_records}
-use Rattle.rtgs_sql_loading.proofs.OwnRows.{IsOwn, read_plainly}
+use Rattle.rtgs_sql_loading.proofs.OwnRows.{IsOwn, read_unchanged}
 
 -- where the numbers are above zero, the tables show the records' own rows
 pub shows_of : (version : ℕ) (trees : Trees) (accounts : List Account) (book : Book)
@@ -25,7 +25,7 @@ pub shows_of : (version : ℕ) (trees : Trees) (accounts : List Account) (book :
 shows_of version trees accounts book read numbered =
     let plain : AreTheRecords version (λ table _. ShowsTable table trees) accounts book =
     both (own_records read numbered) read
-    (λ table counted told own same. subst (λ seen. IsPermutation seen told) (read_plainly counted
+    (λ table counted seen_rows own same. subst (λ seen. IsPermutation seen seen_rows) (read_unchanged counted
     (as_shown table trees) (all-permutation (IsOwn counted) _ _ (IsPermutation-sym _ _ same) own)) same) in
     record { named = read.named; shows = plain.tells; no_more = read.no_more }
 

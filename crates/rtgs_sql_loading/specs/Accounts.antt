@@ -21,15 +21,15 @@ use Rattle.rtgs_rows.specs.Keeping.{AreBalances}
 use Rattle.rtgs_rows.specs.Querying.{as_shown, ShowsBook}
 use Rattle.rtgs_rows.specs.TableRecords.{TableRecords, Each, HasNoMoreBeyond, records_in, desk_records}
 use Rattle.rtgs_rows.specs.TableRecords.{resolution_records}
-use Rattle.rtgs_rows.specs.Tables.{HasTable, desk_table, payment_table, forward_table, resolution_table}
+use Rattle.rtgs_rows.specs.Tables.{HasTable, desk_table, order_table, forward_table, resolution_table}
 use Rattle.rtgs_sql_columns.specs.Numbers.{as_read, AreReadAs, IsFormed}
 use Rattle.rtgs_sql_queries.specs.TableQueries.{ShowsSorted}
 use Rattle.rtgs_sql_loading.specs.Joining.{AreOrders}
 use Rattle.rtgs_book.specs.declared.account.Account.{Account}
 
 -- the rows of a table as its query shows them and as they are read, in some order
-abbrev pub AreTold : Trees → Table → List Bool → List Row → Type 0
-AreTold trees table counted = IsPermutation (map (as_read counted) (as_shown table trees))
+abbrev pub AreRowsIn : Trees → Table → List Bool → List Row → Type 0
+AreRowsIn trees table counted = IsPermutation (map (as_read counted) (as_shown table trees))
 
 -- ---- of all tables
 
@@ -51,10 +51,10 @@ pub record AreTheRecords (version : ℕ) (Tells : Telling) (accounts : List Acco
   pub tells : Each (TellsOf version Tells accounts book) (records_in version)
   pub no_more : HasNoMoreBeyond version accounts book
 
--- What is read of trees of this version, sound or not: each row of the tables is told by one record. A number below
+-- What is read of trees of this version, sound or not: each row of the tables is that of one record. A number below
 -- zero is read as 0, which breaks the same rule of a sound book.
 abbrev pub AreReadOf : ℕ → Trees → List Account → Book → Type 0
-AreReadOf version trees = AreTheRecords version (AreTold trees)
+AreReadOf version trees = AreTheRecords version (AreRowsIn trees)
 
 -- one row alone, which is in the form of a record
 abbrev pub IsOneRow : {A : Type 0} → TableRecords A → List Row → Type 0
@@ -79,8 +79,8 @@ ShowsDues version trees dues = (HasTable version forward_table × ShowsSorted fo
 
 -- the rows of the two tables, sorted by their numbers, are those of orders
 abbrev pub HasOrders : ℕ → Trees → Type 0
-HasOrders version trees = (payments dues : List Row) → ShowsSorted payment_table trees payments
-    → ShowsDues version trees dues → AreOrders payments dues
+HasOrders version trees = (undated_orders dues : List Row) → ShowsSorted order_table trees undated_orders
+    → ShowsDues version trees dues → AreOrders undated_orders dues
 
 -- Each row of the tables that the version has is in the form of a record; the first table has one row, which says this
 -- version; that of the choice has one row; each due date is of an order, and each held order has one.

@@ -8,7 +8,7 @@ use Rattle.rtgs_book.specs.declared.Fault.{Fault}
 use Rattle.rtgs_book.specs.declared.Fault.TheVariants.{OutOfMemory, StoreFault, NotADeskFile, Inconsistent}
 use Rattle.rtgs_rows.specs.Keeping.{AreBalances}
 use Rattle.rtgs_rows.specs.TableRecords.{OneOf, records_in, resolution_records}
-use Rattle.rtgs_rows.specs.Tables.{HasTable, IsVersion, desk_table, payment_table, forward_table, resolution_table}
+use Rattle.rtgs_rows.specs.Tables.{HasTable, IsVersion, desk_table, order_table, forward_table, resolution_table}
 use Rattle.rtgs_sql_columns.specs.Numbers.{as_read}
 use Rattle.rtgs_sql_columns.specs.Tables.{query_text}
 use Rattle.rtgs_sql_queries.specs.Displaying.{Displays, HasNoAnswer}
@@ -20,9 +20,10 @@ use Rattle.rtgs_sql_loading.specs.Accounts.{AreTheRecords, StoredBreaksFirst, Is
 -- The rows are an answer to the text, and are read as these: at each place that is marked, a number below zero is read
 -- as 0.
 abbrev pub DisplaysAs : Database → List ℕ → List Bool → List Row → Type 0
-DisplaysAs db text counted told = (rows : List Row) × Displays db text rows × (map (as_read counted) rows ≡ told)
+DisplaysAs db text counted seen_rows = (rows : List Row) × Displays db text rows
+    × (map (as_read counted) rows ≡ seen_rows)
 
--- What is read as tables of this version: each row that is shown is told by one record, in its place.
+-- What is read as tables of this version: each row that is shown is that of one record, in its place.
 abbrev pub AreDisplayed : ℕ → Database → List Account → Book → Type 0
 AreDisplayed version db = AreTheRecords version (λ table. DisplaysAs db (query_text table))
 
@@ -58,8 +59,8 @@ DisplaysDues version db dues = (HasTable version forward_table × Displays db (q
 
 -- the queries show rows of orders and of due dates that are not those of orders
 abbrev pub ShowsNoOrders : ℕ → Database → Type 0
-ShowsNoOrders version db = (payments dues : List Row) × Displays db (query_text payment_table) payments
-    × DisplaysDues version db dues × ¬ AreOrders payments dues
+ShowsNoOrders version db = (undated_orders dues : List Row) × Displays db (query_text order_table) undated_orders
+    × DisplaysDues version db dues × ¬ AreOrders undated_orders dues
 
 -- The version is not known; or the query of the first table has no answer, or shows not one row, or one that does not
 -- say this version; or so it is with the table of the choice; or the query of one of the version's tables has no

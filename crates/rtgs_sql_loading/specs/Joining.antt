@@ -16,31 +16,31 @@ IsNotNext number (f ∷ forwards) = f.number ≢ number
 -- What comes of an order as its own row has it: it takes the first of the due dates that are left, if that has its
 -- number; else it has none, and is not held. These due dates are left then.
 abbrev pub Takes : Order → List Forward → Order → List Forward → Type 0
-Takes payment forwards order left =
-    ((due : ℕ) × (forwards ≡ record { number = payment.number; due = due } ∷ left)
-    × (order ≡ record payment { due = Some due }))
-    ⊎ ((is_held payment ≡ false) × IsNotNext payment.number forwards × (left ≡ forwards) × (order ≡ payment))
+Takes undated forwards order left =
+    ((due : ℕ) × (forwards ≡ record { number = undated.number; due = due } ∷ left)
+    × (order ≡ record undated { due = Some due }))
+    ⊎ ((is_held undated ≡ false) × IsNotNext undated.number forwards × (left ≡ forwards) × (order ≡ undated))
 
 -- it is held, and the first of the due dates that are left is not its own
 abbrev pub TakesNone : Order → List Forward → Type 0
-TakesNone payment forwards = (is_held payment ≡ true) × IsNotNext payment.number forwards
+TakesNone undated forwards = (is_held undated ≡ true) × IsNotNext undated.number forwards
 
 -- The orders are those that come of these, one after another, and no due date is left. Where the numbers of both lists
 -- rise, there are such orders exactly if each due date is under the number of an order, and each held order has one: a
 -- law says so.
 abbrev pub AreJoined : List Order → List Forward → List Order → Type 0
 AreJoined [] forwards orders = (forwards ≡ []) × (orders ≡ [])
-AreJoined (payment ∷ payments) forwards [] = ⊥
-AreJoined (payment ∷ payments) forwards (order ∷ orders) =
-    (left : List Forward) × Takes payment forwards order left × AreJoined payments left orders
+AreJoined (undated ∷ undated_orders) forwards [] = ⊥
+AreJoined (undated ∷ undated_orders) forwards (order ∷ orders) =
+    (left : List Forward) × Takes undated forwards order left × AreJoined undated_orders left orders
 
 -- the rows of the two tables, in this order, are those of orders
-pub record AreOrders (payments dues : List Row) : Type 0 where
+pub record AreOrders (undated_orders dues : List Row) : Type 0 where
   pub plain : List Order
   pub forwards : List Forward
   pub orders : List Order
   pub plain_fit : AllByRecursion order_records.fits plain
   pub forwards_fit : AllByRecursion forward_records.fits forwards
-  pub plain_read : AreReadAs order_records payments plain
+  pub plain_read : AreReadAs order_records undated_orders plain
   pub forwards_read : AreReadAs forward_records dues forwards
   pub joined : AreJoined plain forwards orders

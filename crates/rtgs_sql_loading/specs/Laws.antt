@@ -16,13 +16,14 @@ abbrev pub RisesBy : {A : Type 0} → (A → ℕ) → List A → Type 0
 RisesBy number = IsAscending (λ a b. number a < number b)
 
 -- each due date is under the number of an order, and each held order has one under its own
-pub record FitTogether (payments : List Order) (forwards : List Forward) : Type 0 where
-  pub orders : AllByRecursion (λ (f : Forward). HasNumber (λ (o : Order). o.number) payments f.number) forwards
+pub record FitTogether (undated_orders : List Order) (forwards : List Forward) : Type 0 where
+  pub orders : AllByRecursion (λ (f : Forward). HasNumber (λ (o : Order). o.number) undated_orders f.number) forwards
   pub dues : AllByRecursion (λ (o : Order). is_held o ≡ true
-      → HasNumber (λ (f : Forward). f.number) forwards o.number) payments
+      → HasNumber (λ (f : Forward). f.number) forwards o.number) undated_orders
 
 -- where numbers rise, the orders and the due dates are joined exactly if they fit together
 abbrev pub WhatFitsIsJoined : Type 0
-WhatFitsIsJoined = (payments : List Order) (forwards : List Forward) → RisesBy (λ (o : Order). o.number) payments
+WhatFitsIsJoined = (undated_orders : List Order) (forwards : List Forward)
+    → RisesBy (λ (o : Order). o.number) undated_orders
     → RisesBy (λ (f : Forward). f.number) forwards
-    → FitTogether payments forwards ↔ ((orders : List Order) × AreJoined payments forwards orders)
+    → FitTogether undated_orders forwards ↔ ((orders : List Order) × AreJoined undated_orders forwards orders)

@@ -26,7 +26,7 @@ use Rattle.rtgs_sql_queries.specs.Faults.{IsOfStore}
 use Rattle.rtgs_sql_queries.specs.Records.{HasRecords}
 use Rattle.rtgs_sql_queries.specs.TableQueries.{ShowsSorted}
 use Rattle.sqlite.specs.Order.{Row}
-use Rattle.rtgs_sql_loading.specs.Accounts.{Telling, AreTold, AreReadOf, ExplainsRead, ExplainsTrees, IsShown}
+use Rattle.rtgs_sql_loading.specs.Accounts.{Telling, AreRowsIn, AreReadOf, ExplainsRead, ExplainsTrees, IsShown}
 use Rattle.rtgs_sql_loading.specs.Displaying.{DisplaysAs, AreDisplayed, IsDisplayed, ExplainsDatabase}
 
 -- nothing is written: a clean disk was clean before, and the tables and what the database shows stay
@@ -36,18 +36,20 @@ pub record ReadsOn (old new : State) : Type 0 where
   pub same : HasCleanDisk new → new.now ≡ old.now
   pub survives : Survives old new (λ _. ⊥)
 
--- rows of a table are told: by its rows, where the schema is that of this version, and by what its query shows
-abbrev pub IsToldBy : ℕ → State → Telling
-IsToldBy version s table counted told = ((trees : Trees) → IsFileIn version trees s
-    → AreTold trees table counted told) × DisplaysAs s.now (query_text table) counted told
+-- a table has these rows: by its rows, where the schema is that of this version, and by what its query shows
+abbrev pub HasRows : ℕ → State → Telling
+HasRows version s table counted seen_rows = ((trees : Trees) → IsFileIn version trees s
+    → AreRowsIn trees table counted seen_rows) × DisplaysAs s.now (query_text table) counted seen_rows
 
 -- These records are read of a table of this version: they are those that it has, where the tables have any, and each is
--- in its form. Their rows are told where the version has the table, and where it has not they are those of a new desk.
+-- in its form. Their rows are those of the table where the version has it, and where it has not they are those of a new
+-- desk.
 pub record ReadsRecords {A : Type 0} (version : ℕ) (records : TableRecords A) (s : State) (all : List A) : Type 0 where
   pub given : (accounts : List Account) (book : Book) → HasRecords version accounts book s
       → all ≡ records.of_book version accounts book
   pub fit : AllByRecursion records.fits all
-  pub told : HasTable version records.table → IsToldBy version s records.table records.counted (map records.shown all)
+  pub has_rows : HasTable version records.table
+      → HasRows version s records.table records.counted (map records.shown all)
   pub had : IsVersion version → HasTable version records.table
       ⊎ (¬ HasTable version records.table × (all ≡ at_first version records))
 
@@ -59,10 +61,10 @@ read_after {version = version} {records = records} {all = all} on clean reads = 
   given = λ accounts book held.
       reads.given accounts book (held.0, (on.keeps clean).rests version held.0 held.1, held.2, held.3);
   fit = reads.fit;
-  told = λ has. (
-    λ trees file. (reads.told has).0 trees ((on.keeps clean).file version trees file),
+  has_rows = λ has. (
+    λ trees file. (reads.has_rows has).0 trees ((on.keeps clean).file version trees file),
     subst (λ now. DisplaysAs now (query_text records.table) records.counted (map records.shown all)) (on.same clean)
-        (reads.told has).1,
+        (reads.has_rows has).1,
   );
   had = reads.had;
 }
@@ -134,8 +136,8 @@ pub record Stops {A : Type 0} (version : ℕ) (old new : State) (result : Result
   pub same : HasCleanDisk new → result ≢ Err StoreFault → KeepsTables old new
   pub survives : Survives old new (λ _. ⊥)
 
--- How the error of a query is told: as lack of memory only if it was that, and as no desk's tables exactly if it is no
--- error of the store.
+-- How the error of a query is passed on: as lack of memory only if it was that, and as no desk's tables exactly if it
+-- is no error of the store.
 pub record TellsError (error : Error) (fault : Fault) : Type 0 where
   pub cause : fault ≡ OutOfMemory → error ≡ SqliteFailure code.OutOfMemory
   pub right : IsOfStore error → (fault ≡ OutOfMemory) ⊎ (fault ≡ StoreFault)
@@ -155,5 +157,5 @@ pub record LoadsFrom (version : ℕ) (s : State) (result : Result Book Fault) : 
   pub shown : (trees : Trees) → IsFileIn version trees s → IfOk result (IsShown version trees)
   pub caused : (trees : Trees) → IsFileIn version trees s → IfErr result (ExplainsTrees version trees)
   pub displayed : IfOk result (IsDisplayed version s.now)
-  pub told : IfErr result (ExplainsDatabase version s.now)
+  pub by_queries : IfErr result (ExplainsDatabase version s.now)
   pub unknown : ¬ IsVersion version → result ≡ Err NotADeskFile

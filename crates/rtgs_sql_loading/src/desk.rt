@@ -20,7 +20,7 @@ use std::alloc::Global;
 /// The version that the tables say they are of, which need not be one that is known. `NotADeskFile` where they say
 /// none.
 pub fn version_of<S: Alter>(alloc: Global, conn: &mut Connection<S>) -> Result<u64, Fault>
-    ensures told { HasCleanDisk (state S.Store conn.new) → IfOk result (λ version. (desk : DeskRowSpec)
+    ensures read { HasCleanDisk (state S.Store conn.new) → IfOk result (λ version. (desk : DeskRowSpec)
         × (desk.version ≡ version) × ReadsDesk (state S.Store conn.old) desk) }
     ensures stops { (version : ℕ) → Stops version (state S.Store conn.old) (state S.Store conn.new) result
         (λ trees. ¬ IsOneDesk (as_shown desk_table trees)) SaysNoVersion }

@@ -4,11 +4,11 @@
 mod balances;
 mod desk;
 mod faults;
+mod from_tables;
 pub mod laws;
 mod loading;
 mod one_row;
 mod orders;
-mod reading;
 
 pub use crate::desk::version_of;
 pub use crate::loading::load_book;

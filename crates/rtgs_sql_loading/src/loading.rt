@@ -17,8 +17,8 @@ ghost use Rattle.sqlite.specs.State.{HasCleanDisk, Survives};
 ghost use Rattle.sqlite.specs.Held.{state};
 
 use crate::balances::balances_agree;
+use crate::from_tables::FromTables;
 use crate::orders::joined;
-use crate::reading::FromTables;
 use rtgs_book::{Account, Book, Day, Fault, Mark, Order, Participant, Posting, Rows, Rule};
 use rtgs_rows::laws::shown_records_are_held;
 use rtgs_rows::{DeskRow, Forward, ResolutionRow};
@@ -49,7 +49,7 @@ fn read_tables<S: Alter>(
     conn: &mut Connection<S>,
     version: u64,
 ) -> Result<Stored, Fault>
-    ensures told { IsVersion version → HasCleanDisk (state S.Store conn.new) → IfOk result (λ stored.
+    ensures read { IsVersion version → HasCleanDisk (state S.Store conn.new) → IfOk result (λ stored.
         TellsRecords version (state S.Store conn.old) stored.accounts.items stored.book) }
     ensures stops { Stops version (state S.Store conn.old) (state S.Store conn.new) result
         (λ trees. ¬ AreFormed version trees) (IsIllegible version) }
@@ -78,7 +78,6 @@ fn read_tables<S: Alter>(
     Ok(Stored { accounts, book })
 }
 
-/// The participants of the accounts.
 fn participants_of(alloc: Global, accounts: &[Account]) -> Result<Vec<Participant>, AllocError>
     ensures { IfOk result (λ v. v.items ≡ map (λ (a : AccountSpec). a.participant) accounts.now) }
 {

@@ -33,12 +33,11 @@ fn only_row<T: OneRow>(rows: &[Row]) -> Result<T, Fault>
     }
 }
 
-/// Reads the row.
 pub(crate) fn read_one<T: OneRow, S: Alter>(
     alloc: Global,
     conn: &mut Connection<S>,
 ) -> Result<T, Fault>
-    ensures told { HasCleanDisk (state S.Store conn.new) → IfOk result (ReadsOne T.records (state S.Store conn.old)) }
+    ensures read { HasCleanDisk (state S.Store conn.new) → IfOk result (ReadsOne T.records (state S.Store conn.old)) }
     ensures stops { (version : ℕ) → (IsVersion version → HasTable version T.records.table)
         → Stops version (state S.Store conn.old) (state S.Store conn.new) result
         (λ trees. ¬ IsOneRow T.records (as_shown T.records.table trees))

@@ -12,7 +12,7 @@ use Rattle.rtgs_book.specs.declared.Order.{Order}
 use Rattle.rtgs_cores.specs.Nexts.{AreNumberedInOrder}
 use Rattle.rtgs_lists.proofs.Finds.{all_found}
 use Rattle.rtgs_rows.specs.Dues.{without_due, forward_for, forwards_of}
-use Rattle.rtgs_rows.specs.Fitting.{FitsDate, FitsPayment, FitsOrder, FitsForward}
+use Rattle.rtgs_rows.specs.Fitting.{FitsDate, FitsUndated, FitsOrder, FitsForward}
 use Rattle.rtgs_rows.specs.Rows.{shown_order}
 use Rattle.rtgs_rows.specs.declared.forward.Forward.{Forward}
 use Rattle.rtgs_sql_look_ups.specs.Finding.{one_of, due_under}
@@ -25,10 +25,10 @@ shown_plain None = refl
 shown_plain (Some o) = refl
 
 pub plain_fits : (o : Option Order) → AllByRecursion FitsOrder (one_of o)
-    → AllByRecursion (λ (p : Order). FitsPayment p × (p.due ≡ None)) (one_of (option_map without_due o))
+    → AllByRecursion (λ (p : Order). FitsUndated p × (p.due ≡ None)) (one_of (option_map without_due o))
 plain_fits None fits = tt
 plain_fits (Some o) fits =
-    let it = fits.0.payment in (
+    let it = fits.0.undated in (
       (
         record {
           sender = it.sender;
@@ -115,18 +115,18 @@ due_of_found is_it (x ∷ os) o numbers e = elim (cases_Bool (is_it x)) [
 
 -- an order is what it is without its due date, and that date
 pub joined : (is_it : Order → Bool) (os : List Order) → AreNumberedInOrder (λ (it : Order). it.number) os
-    → (payment : Order) (due : Option ℕ) → Some payment ≡ option_map without_due (find is_it os)
-    → due ≡ due_under payment.number (forwards_of os)
-    → ◌≡◌ {A = Option Order} (Some (record payment { due = due })) (find is_it os)
-joined is_it os numbers payment due same is = at (find is_it os) refl same
+    → (undated : Order) (due : Option ℕ) → Some undated ≡ option_map without_due (find is_it os)
+    → due ≡ due_under undated.number (forwards_of os)
+    → ◌≡◌ {A = Option Order} (Some (record undated { due = due })) (find is_it os)
+joined is_it os numbers undated due same is = at (find is_it os) refl same
   where
     at : (found : Option Order) → find is_it os ≡ found
-        → ◌≡◌ {A = Option Order} (Some payment) (option_map without_due found)
-        → ◌≡◌ {A = Option Order} (Some (record payment { due = due })) found
+        → ◌≡◌ {A = Option Order} (Some undated) (option_map without_due found)
+        → ◌≡◌ {A = Option Order} (Some (record undated { due = due })) found
     at None e plain = absurd cc
     at (Some o) e plain =
-        let one : payment ≡ without_due o = cc in
-        let number : payment.number ≡ o.number = ap (λ (it : Order). it.number) one in
+        let one : undated ≡ without_due o = cc in
+        let number : undated.number ≡ o.number = ap (λ (it : Order). it.number) one in
         let own_due : due ≡ o.due = is ∙ ap (λ n. due_under n (forwards_of os)) number
         ∙ due_of_found is_it os o numbers e in
         λ i. Some (record (one i) { due = own_due i })

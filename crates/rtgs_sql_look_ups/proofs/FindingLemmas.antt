@@ -45,14 +45,14 @@ use Rattle.rtgs_book.specs.Lookup.{is_order_named, is_posting_named, order_named
 use Rattle.rtgs_book.specs.Soundness.{is_same_name}
 use Rattle.rtgs_rows.specs.Content.{Content, Rests, rows_in}
 use Rattle.rtgs_rows.specs.Keeping.{IsBookOf, HoldsBook}
-use Rattle.rtgs_rows.specs.Rows.{posting_row, payment_row, mark_row, forward_row, shown_posting, shown_order}
+use Rattle.rtgs_rows.specs.Rows.{posting_row, order_row, mark_row, forward_row, shown_posting, shown_order}
 use Rattle.rtgs_sql_columns.specs.OneTable.{simple, passes, shows, OneTableAnswers}
 use Rattle.rtgs_sql_queries.specs.Answering.{IsQuery, KeepsTables}
 use Rattle.rtgs_sql_look_ups.specs.Finding.{one_of, IsLook, first_query, after_tests, order_after_tests, under_tests}
 use Rattle.rtgs_sql_look_ups.proofs.Passing.{truth_of, same_number, same_text}
 use Rattle.rtgs_sql_look_ups.proofs.FindingTexts.{order_tests, posting_tests, order_query, posting_query}
 use Rattle.rtgs_sql_queries.specs.TableQueries.{columns_of}
-use Rattle.rtgs_rows.specs.Tables.{posting_table, payment_table}
+use Rattle.rtgs_rows.specs.Tables.{posting_table, order_table}
 use Rattle.rtgs_rows.specs.declared.numbers.TheConstants.{VERSION}
 use Rattle.rtgs_lists.proofs.Results.{none_moved}
 use Rattle.rtgs_lists.proofs.Filters.{filter_of, filter_agrees, map-filter}
@@ -197,13 +197,13 @@ found_rows answers {A = A} row shown hit params tree tests project tested shows_
     let s = answers.sorted tree tests project [] (overlay trees []) params rows.items h in
     let passed : filter (passes tests params) (overlay trees [] tree) ≡ map row (one_of (find hit all)) =
     ap (filter (passes tests params)) here ∙ filter_of row (passes tests params) hit tested all ∙ ap (map row) one in
-    let told : map (shows project params) (filter (passes tests params) (overlay trees [] tree))
+    let selected : map (shows project params) (filter (passes tests params) (overlay trees [] tree))
     ≡ map shown (one_of (find hit all)) = ap (map (shows project params)) passed
     ∙ map-map (shows project params) row (one_of (find hit all))
     ∙ map_same (λ (a : A). shows project params (row a)) shown shows_it (one_of (find hit all)) in
     let some : map shown (one_of (find hit all)) ≡ one_of (option_map shown (find hit all)) =
     map_one shown (find hit all) in
-    one_moved _ rows.items (subst (λ xs. IsPermutation xs rows.items) (told ∙ some)
+    one_moved _ rows.items (subst (λ xs. IsPermutation xs rows.items) (selected ∙ some)
     (answers.shown q params _ rows.items s))
     ∙ sym some
 
@@ -280,7 +280,7 @@ is_above : (m n : ℕ) → is_gt (value_cmp (Int (pos m)) (Int (pos n))) ≡ nat
 is_above m n = ap is_gt (value_cmp-Int (pos m) (pos n)) ∙ above_is m n _ (int_ranks (pos m) (pos n))
 
 pub order_passes : (sender reference : List ℕ) (o : Order)
-    → passes order_tests (Text sender ∷ Text reference ∷ []) (payment_row o) ≡ is_order_named sender reference o
+    → passes order_tests (Text sender ∷ Text reference ∷ []) (order_row o) ≡ is_order_named sender reference o
 unfolding binary
 order_passes sender reference o =
     let one = same_text o.sender sender in
@@ -300,7 +300,7 @@ unfolding binary
 posting_is_after number p = truth_of _ ∙ is_above p.number number
 
 pub order_is_after : (date number : ℕ) (o : Order)
-    → passes order_after_tests (Text (date_text date) ∷ Int (pos number) ∷ []) (payment_row o)
+    → passes order_after_tests (Text (date_text date) ∷ Int (pos number) ∷ []) (order_row o)
     ≡ (bytes_eq (date_text o.date) (date_text date) && nat_lt number o.number)
 unfolding binary
 order_is_after date number o =
@@ -316,7 +316,7 @@ unfolding binary
 mark_is_after number m = truth_of _ ∙ is_above m.number number
 
 pub order_is_above : (number : ℕ) (o : Order)
-    → passes after_tests (Int (pos number) ∷ []) (payment_row o) ≡ nat_lt number o.number
+    → passes after_tests (Int (pos number) ∷ []) (order_row o) ≡ nat_lt number o.number
 unfolding binary
 order_is_above number o = truth_of _ ∙ is_above o.number number
 
@@ -386,11 +386,11 @@ pub finds_order : OneTableAnswers → (sender reference : List ℕ) (book : Book
     → IfOk r (λ rows. rows.items ≡ map shown_order (one_of (order_named book sender reference)))
 unfolding order_named
 finds_order answers sender reference book old content rests of r given same answer =
-    let here : old.now.trees payment_table.tree ≡ map payment_row book.orders =
-    ap (λ (d : Database). d.trees payment_table.tree) rests.clean
-    ∙ ap (rows_in payment_table) rests.holds.rows ∙ ap (map payment_row) of.records.lists.orders in
-    found_rows answers payment_row shown_order (is_order_named sender reference) (Text sender ∷ Text reference ∷ [])
-    payment_table.tree order_tests (columns_of payment_table) (order_passes sender reference) (λ o. refl)
+    let here : old.now.trees order_table.tree ≡ map order_row book.orders =
+    ap (λ (d : Database). d.trees order_table.tree) rests.clean
+    ∙ ap (rows_in order_table) rests.holds.rows ∙ ap (map order_row) of.records.lists.orders in
+    found_rows answers order_row shown_order (is_order_named sender reference) (Text sender ∷ Text reference ∷ [])
+    order_table.tree order_tests (columns_of order_table) (order_passes sender reference) (λ o. refl)
     old.now.trees book.orders here
     (one_named (λ (o : Order). (o.sender, o.reference)) is_same_name (sender, reference) book.orders
     (names_tied (sender, reference)) of.sound.order_references) r

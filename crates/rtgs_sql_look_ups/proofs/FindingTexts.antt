@@ -7,7 +7,7 @@ use Rattle.sqlite.specs.Term.{Term, col, op2}
 use Rattle.sqlite_tied.specs.Compute.{everything}
 use Rattle.sqlite_resolve.specs.Compile.{first}
 use Rattle.sqlite.specs.Listing.{understood}
-use Rattle.rtgs_rows.specs.Tables.{schema_in, posting_table, payment_table, mark_table, forward_table}
+use Rattle.rtgs_rows.specs.Tables.{schema_in, posting_table, order_table, mark_table, forward_table}
 use Rattle.rtgs_sql_columns.specs.Tables.{column_names}
 use Rattle.sqlite.specs.Query.{Query}
 use Rattle.rtgs_sql_columns.specs.OneTable.{simple}
@@ -25,9 +25,9 @@ abbrev pub order_tests : List Term
 order_tests = op2 (Compare Eq Binary) (col 1 2) (col 0 0) ∷ op2 (Compare Eq Binary) (col 1 3) (col 0 1) ∷ []
 
 abbrev pub order_query : Query
-order_query = simple payment_table.tree order_tests (columns_of payment_table) []
+order_query = simple order_table.tree order_tests (columns_of order_table) []
 
-pub order_seeks : Seeks order_text 2 order_query (column_names payment_table)
+pub order_seeks : Seeks order_text 2 order_query (column_names order_table)
 unfolding understood everything schema_in
 order_seeks = record {
   asks = record { command = refl; plain = (refl, refl); whole = refl; given = refl };
@@ -78,7 +78,7 @@ abbrev pub order_after_text : List ℕ
 order_after_text = codes "SELECT number, sender, reference, receiver, amount, date, state, mark FROM payment "
     ++ codes "WHERE date = ?1 AND number > ?2 ORDER BY number LIMIT 1"
 
-pub order_after_asks : IsFirstQuery payment_table order_after_tests order_after_text 2
+pub order_after_asks : IsFirstQuery order_table order_after_tests order_after_text 2
 unfolding understood everything schema_in
 order_after_asks = record {
   seeks = record {
@@ -105,7 +105,7 @@ abbrev pub order_above_text : List ℕ
 order_above_text = codes "SELECT number, sender, reference, receiver, amount, date, state, mark FROM payment "
     ++ codes "WHERE number > ?1 ORDER BY number LIMIT 1"
 
-pub order_above_asks : IsFirstQuery payment_table after_tests order_above_text 1
+pub order_above_asks : IsFirstQuery order_table after_tests order_above_text 1
 unfolding understood everything schema_in
 order_above_asks = record {
   seeks = record {

@@ -23,13 +23,13 @@ use Rattle.rtgs_book.specs.declared.Book.{Book}
 use Rattle.rtgs_book.specs.declared.Order.{Order}
 use Rattle.rtgs_cores.specs.Nexts.{order_after, is_order_after}
 use Rattle.rtgs_rows.specs.RowLaws.{RecordsStandInOrder}
-use Rattle.rtgs_rows.specs.Rows.{posting_row, payment_row, mark_row, forward_row}
+use Rattle.rtgs_rows.specs.Rows.{posting_row, order_row, mark_row, forward_row}
 use Rattle.rtgs_rows.specs.Content.{Content, Rests, Rise, rows_in}
 use Rattle.rtgs_rows.specs.Dues.{without_due, forwards_of}
 use Rattle.rtgs_rows.specs.Fitting.{FitsOrder}
 use Rattle.rtgs_rows.specs.Keeping.{IsBookOf}
 use Rattle.rtgs_rows.specs.TableRecords.{TableRecords, posting_records, order_records, mark_records, forward_records}
-use Rattle.rtgs_rows.specs.Tables.{posting_table, payment_table, mark_table, forward_table}
+use Rattle.rtgs_rows.specs.Tables.{posting_table, order_table, mark_table, forward_table}
 use Rattle.rtgs_rows.specs.declared.forward.Forward.{Forward}
 use Rattle.rtgs_sql_columns.specs.OneTable.{passes, OneTableAnswers}
 use Rattle.rtgs_sql_queries.specs.Laws.{RecordsAreRead}
@@ -85,7 +85,7 @@ same_date tell date is o fits = elim (cases_Bool (o.date == date)) [
   | inl same ↦ (bytes_eq-Decides _ _).1 (ap date_text (eqb-true o.date date same)) ∙ sym same
   | inr other ↦ elim (cases_Bool (bytes_eq (date_text o.date) (date_text date))) [
     | inl same ↦ absurd (true≢false (sym (eq-eqb o.date date
-        (tell o.date date fits.payment.date is ((bytes_eq-Decides _ _).0 same))) ∙ other))
+        (tell o.date date fits.undated.date is ((bytes_eq-Decides _ _).0 same))) ∙ other))
     | inr apart ↦ apart ∙ sym other
   ]
 ]
@@ -97,13 +97,13 @@ pub order_first : RecordsStandInOrder → OneTableAnswers → RecordsAreRead ord
     (option_map without_due (order_after book date number))
 unfolding order_after
 order_first in_order answers read tell date number is book s content rests of rows answer =
-    first_in_table order_records order_after_tests payment_row (λ o. o.number) (is_order_after date number)
+    first_in_table order_records order_after_tests order_row (λ o. o.number) (is_order_after date number)
     (Text (date_text date) ∷ Int (pos number) ∷ []) answers read
     (λ a b low. then-Equal _ ∙ value_cmp-Int (pos a.number) (pos b.number) ∙ low) (λ _. refl) s.now.trees
     book.orders content.orders
     (all_weaker FitsOrder _ (λ o fits. order_is_after date number o
     ∙ ap (λ b. b && nat_lt number o.number) (same_date tell date is o fits)) book.orders of.fits.orders)
-    (held_in content s rests payment_table ∙ ap (rows_in payment_table) rests.holds.rows)
+    (held_in content s rests order_table ∙ ap (rows_in order_table) rests.holds.rows)
     of.records.lists.orders (in_order book content of).orders rows answer
     ∙ sym (shown_plain (order_after book date number))
 
@@ -112,11 +112,11 @@ pub order_above_first : RecordsStandInOrder → OneTableAnswers → RecordsAreRe
     → ShowsFirst order_records after_tests s.now.trees (Int (pos number) ∷ [])
     (option_map without_due (first_order_above number book.orders))
 order_above_first in_order answers read number book s content rests of rows answer =
-    first_in_table order_records after_tests payment_row (λ o. o.number) (λ o. nat_lt number o.number)
+    first_in_table order_records after_tests order_row (λ o. o.number) (λ o. nat_lt number o.number)
     (Int (pos number) ∷ []) answers read
     (λ a b low. then-Equal _ ∙ value_cmp-Int (pos a.number) (pos b.number) ∙ low) (λ _. refl) s.now.trees
     book.orders content.orders (all_of _ (order_is_above number) book.orders)
-    (held_in content s rests payment_table ∙ ap (rows_in payment_table) rests.holds.rows)
+    (held_in content s rests order_table ∙ ap (rows_in order_table) rests.holds.rows)
     of.records.lists.orders (in_order book content of).orders rows answer
     ∙ sym (shown_plain (first_order_above number book.orders))
 

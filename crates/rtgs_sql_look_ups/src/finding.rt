@@ -100,7 +100,7 @@ pub(crate) fn only_record<T: TableRow + Drop>(rows: &[Row]) -> Result<Option<T>,
 }
 
 /// The order that the sender gave this reference, where the tables have one, without its due date.
-pub(crate) fn named_payment<S: Alter>(
+pub(crate) fn named_undated<S: Alter>(
     conn: &mut Connection<S>,
     sender: &Code,
     reference: &Reference,

@@ -108,7 +108,7 @@ impl Listed for Mark {
 
 /// The order of the date with the least number above this one, without its due date. The query names the date, so
 /// nothing is asked of the dates of other orders.
-pub(crate) fn payment_after<S: Alter>(
+pub(crate) fn undated_after<S: Alter>(
     conn: &mut Connection<S>,
     date: BusinessDate,
     number: u64,
@@ -135,7 +135,7 @@ pub(crate) fn payment_after<S: Alter>(
 }
 
 /// The order with the least number above this one, whatever its date, without its due date.
-pub(crate) fn payment_above<S: Alter>(
+pub(crate) fn undated_above<S: Alter>(
     conn: &mut Connection<S>,
     number: u64,
 ) -> Result<Option<Order>, Fault>

@@ -13,8 +13,8 @@ ghost use Rattle.rtgs_sql_look_ups.specs.Skipping.{first_order_above};
 ghost use Rattle.sqlite.specs.State.{HasCleanDisk};
 ghost use Rattle.sqlite.specs.Held.{state};
 
-use crate::finding::named_payment;
-use crate::listing::{first_record, payment_above, payment_after};
+use crate::finding::named_undated;
+use crate::listing::{first_record, undated_above, undated_after};
 use rtgs_book::{Fault, LARGEST_NUMBER, Order};
 use rtgs_cores::laws::records_are_listed;
 use rtgs_money::{BusinessDate, Code, Reference};
@@ -50,16 +50,16 @@ fn due_date<S: Alter>(conn: &mut Connection<S>, number: u64) -> Result<Option<Bu
 }
 
 /// The order of a row, with this due date. No order of a sound book is held without one: that is a fault of the store.
-fn dated(payment: Order, due: Option<BusinessDate>) -> Result<Option<Order>, Fault>
+fn dated(undated: Order, due: Option<BusinessDate>) -> Result<Option<Order>, Fault>
     ensures right { (book : Book) → IsSound book → (is_it : OrderSpec → Bool)
-        → Some (record payment { due = due }) ≡ find is_it book.orders → result ≡ Ok (find is_it book.orders) }
+        → Some (record undated { due = due }) ≡ find is_it book.orders → result ≡ Ok (find is_it book.orders) }
     ensures dues { IfOk result (λ found. IfSome found IsHeldByDue) }
     ensures fault { IfErr result (λ fault. fault ≡ Fault.StoreFault) }
 {
-    if due.is_none() && payment.state.is_held() {
+    if due.is_none() && undated.state.is_held() {
         return Err(Fault::StoreFault);
     }
-    let mut order = payment;
+    let mut order = undated;
     order.due = due;
     Ok(Some(order))
 }
@@ -67,16 +67,16 @@ fn dated(payment: Order, due: Option<BusinessDate>) -> Result<Option<Order>, Fau
 /// The order of a row with its due date, where there is a row.
 fn with_due<S: Alter>(
     conn: &mut Connection<S>,
-    payment: Option<Order>,
+    undated: Option<Order>,
 ) -> Result<Option<Order>, Fault>
     ensures looks { IsLook S.Store conn.old conn.new result }
     ensures found { HasCleanDisk (state S.Store conn.new) → (book : Book) → HoldsBook S.Store conn.old book
-        → (is_it : OrderSpec → Bool) → payment ≡ option_map without_due (find is_it book.orders)
+        → (is_it : OrderSpec → Bool) → undated ≡ option_map without_due (find is_it book.orders)
         → IfOk result (λ found. found ≡ find is_it book.orders) }
     ensures dues { IfOk result (λ found. IfSome found IsHeldByDue) }
 {
     records_are_listed();
-    let Some(order) = payment else {
+    let Some(order) = undated else {
         return Ok(None);
     };
     match due_date(conn, order.number) {
@@ -97,8 +97,8 @@ pub fn find_order<S: Alter>(
         → IfOk result (λ found. found ≡ order_named book sender.now reference.now) }
     ensures dues { IfOk result (λ found. IfSome found IsHeldByDue) }
 {
-    match named_payment(conn, sender, reference) {
-        Ok(payment) => with_due(conn, payment),
+    match named_undated(conn, sender, reference) {
+        Ok(undated) => with_due(conn, undated),
         Err(fault) => Err(fault),
     }
 }
@@ -113,8 +113,8 @@ pub(crate) fn order_above<S: Alter>(
         → IfOk result (λ found. found ≡ first_order_above number book.orders) }
     ensures dues { IfOk result (λ found. IfSome found IsHeldByDue) }
 {
-    match payment_above(conn, number) {
-        Ok(payment) => with_due(conn, payment),
+    match undated_above(conn, number) {
+        Ok(undated) => with_due(conn, undated),
         Err(fault) => Err(fault),
     }
 }
@@ -131,8 +131,8 @@ pub(crate) fn order_by_pass<S: Alter>(
         → IfOk result (λ found. found ≡ order_after book date number) }
     ensures dues { IfOk result (λ found. IfSome found IsHeldByDue) }
 {
-    match payment_after(conn, date, number) {
-        Ok(payment) => with_due(conn, payment),
+    match undated_after(conn, date, number) {
+        Ok(undated) => with_due(conn, undated),
         Err(fault) => Err(fault),
     }
 }

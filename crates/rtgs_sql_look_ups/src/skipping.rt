@@ -10,7 +10,7 @@ ghost use Rattle.rtgs_sql_look_ups.specs.Skipping.{first_order_above, Between, I
 ghost use Rattle.sqlite.specs.State.{HasCleanDisk};
 ghost use Rattle.sqlite.specs.Held.{state};
 
-use crate::listing::{forward_above, payment_above};
+use crate::listing::{forward_above, undated_above};
 use crate::orders::order_above;
 use rtgs_book::{Fault, LARGEST_NUMBER, Order};
 use rtgs_cores::laws::records_are_listed;
@@ -82,7 +82,7 @@ fn pass_dated<S: Alter>(
         → IfOk result (λ (upto, passed). Between (IsOff date) below upto book.orders) }
 {
     records_are_listed();
-    match payment_above(conn, below) {
+    match undated_above(conn, below) {
         Ok(Some(order)) => {
             if order.date == date {
                 Ok((below, false))

@@ -41,7 +41,7 @@ map_length f (x ∷ xs) = ap suc (map_length f xs)
 -- the records of the first rows
 pub record SoFar {A R : Type 0} (fits : A → Type 0) (read : R → R) (shown : A → R) (rows : List R) (at room : ℕ)
     (records : List A) : Type 0 where
-  pub told : length records ≡ at
+  pub counted : length records ≡ at
   pub roomy : length rows ≤ room
   pub fit : AllByRecursion fits records
   pub is : map read (take at rows) ≡ map shown records
@@ -51,7 +51,7 @@ module _ {A R : Type 0} (fits : A → Type 0) (read : R → R) (shown : A → R)
   pub begun : (room : ℕ) (records : List A) → records ≡ [] → length rows ≤ room
       → SoFar fits read shown rows 0 room records
   begun room records none roomy = record {
-    told = ap length none;
+    counted = ap length none;
     roomy = roomy;
     fit = subst (AllByRecursion fits) (sym none) tt;
     is = ap (map shown) (sym none);
@@ -66,9 +66,9 @@ module _ {A R : Type 0} (fits : A → Type 0) (read : R → R) (shown : A → R)
   one_more at room records so item it low here fit is only grown left more same =
       let taken : take (at + 1) rows ≡ take at rows ++ item ∷ [] = take_more rows at item low
       ∙ ap (λ x. take at rows ++ x ∷ []) (sym here) in
-      let told = so.told in
+      let counted = so.counted in
       record {
-        told = grind (arith, common_steps, more, told);
+        counted = grind (arith, common_steps, more, counted);
         roomy = subst (λ n. length rows ≤ n) (sym same) so.roomy;
         fit = subst (AllByRecursion fits) (sym more) (all_push fits records it so.fit fit);
         is = ap (map read) taken ∙ map_push read (take at rows) item ∙ ap₂ (λ l x. l ++ x ∷ []) so.is is

@@ -26,7 +26,7 @@ use Rattle.rtgs_sql_queries.specs.Answering.{Returnless}
 use Rattle.rtgs_sql_queries.specs.Faults.{IsOfStore}
 use Rattle.rtgs_sql_queries.specs.TableQueries.{is_selection, IsQueryText}
 use Rattle.rtgs_sql_queries.proofs.ReadingAlone.{stepped, same_value}
-use Rattle.rtgs_sql_queries.proofs.Refusals.{told}
+use Rattle.rtgs_sql_queries.proofs.Refusals.{is_of_store}
 use Rattle.rtgs_sql_queries.specs.Displaying.{Displays, HasNoAnswer}
 
 -- so it is, however it is understood
@@ -152,7 +152,7 @@ module _ (text : List ℕ) (is : IsQueryText text (first text)) (none : compiled
         | inr (inl wrong) ↦ wrong.0 (sym (ap length plain.names))
         | inr (inr timed) ↦ timed.0 plain.formats
       ])
-  no_answer e (inl (inr failed)) = inl (subst IsOfStore (sym failed.1) (told failed.0))
+  no_answer e (inl (inr failed)) = inl (subst IsOfStore (sym failed.1) (is_of_store failed.0))
   no_answer e (inr h) =
       let own = own_schema old.now.schema text h.0 none h.1.is in
       let plain = plain_query old.now.schema text h.0 is own.0 in

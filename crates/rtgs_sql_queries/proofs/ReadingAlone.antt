@@ -17,7 +17,7 @@ use Rattle.sqlite_resolve.specs.Lowering.{Checked, and_then}
 use Rattle.sqlite_resolve.specs.Compile.{first, command, returning, timed, meaning, planned, with_command, compiled}
 use Rattle.rtgs_sql_queries.specs.Answering.{Returnless, KeepsTables}
 use Rattle.rtgs_sql_queries.specs.Faults.{IsOfStore}
-use Rattle.rtgs_sql_queries.proofs.Refusals.{told}
+use Rattle.rtgs_sql_queries.proofs.Refusals.{is_of_store}
 use Rattle.rtgs_sql_queries.proofs.Resting.{keeps_open}
 
 -- what comes of a step that went well
@@ -112,7 +112,7 @@ module _ (text : List ℕ) (params : Row) (reads : Returnless (first text)) (old
   untouched : (e : Error) → ¬ IsOfStore e → FailsToQuery text params old new e → IsUnchanged old new
   unfolding FailsToQuery IsNotRun
   untouched e other (inl (inl h)) = h.1
-  untouched e other (inl (inr h)) = absurd (other (subst IsOfStore (sym h.1) (told h.0)))
+  untouched e other (inl (inr h)) = absurd (other (subst IsOfStore (sym h.1) (is_of_store h.0)))
   untouched e other (inr h) =
       let none = understood_none old.now.schema text h.0 reads h.1.is in
       let it = subst (FailsToShow old new text h.0 _ e) none h.2 in

@@ -20,18 +20,18 @@ use Rattle.sqlite.proofs.Callers.{IsPlain, command_of}
 use Rattle.rtgs_sql_queries.specs.Faults.{IsOfStore}
 use Rattle.rtgs_sql_queries.specs.TableQueries.{tail_of, count_of, IsOneQuery}
 
-pub told : (cause : StoreError) → IsOfStore (store_error cause)
-told OutOfMemory = tt
-told Io = tt
-told Corrupt = tt
-told Full = tt
-told Broken = tt
-told Unstorable = tt
+pub is_of_store : (cause : StoreError) → IsOfStore (store_error cause)
+is_of_store OutOfMemory = tt
+is_of_store Io = tt
+is_of_store Corrupt = tt
+is_of_store Full = tt
+is_of_store Broken = tt
+is_of_store Unstorable = tt
 
 module _ (sql : List ℕ) (params : Row) (old new : State) (q : Program) (names : List (List ℕ))
     (asks : IsOneQuery old.now.schema sql (length params) q names) (e : Error) where
   fails : (U : Type 0) → Fails old new U e → IsOfStore e
-  fails U h = subst IsOfStore (sym h.1) (told h.0)
+  fails U h = subst IsOfStore (sym h.1) (is_of_store h.0)
 
   no_statement : ¬ IsNoStatement old sql params e
   no_statement (inl bad) = subst IsPlain bad.1 asks.plain
@@ -76,5 +76,5 @@ unread_text old new sql (Ok a) fault why is = absurd cc
 unread_text {A = A} old new sql (Err e) fault why is = elim (why []) [
   | inl bad ↦ bad.1
   | inr failed ↦ let same : e ≡ SqlInputError fault = cc in absurd
-      (subst IsOfStore (sym failed.1 ∙ same) (told failed.0))
+      (subst IsOfStore (sym failed.1 ∙ same) (is_of_store failed.0))
 ]

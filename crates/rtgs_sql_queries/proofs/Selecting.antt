@@ -18,11 +18,11 @@ use Rattle.rtgs_book.specs.declared.Book.{Book}
 use Rattle.rtgs_book.specs.declared.Day.{Day}
 use Rattle.rtgs_book.specs.declared.Order.{Order}
 use Rattle.rtgs_rows.specs.Tables.{IsVersion, schema_in, known_tables, desk_table, participant_table, posting_table}
-use Rattle.rtgs_rows.specs.Tables.{payment_table, mark_table, forward_table, resolution_table, versions_of, HasTable}
+use Rattle.rtgs_rows.specs.Tables.{order_table, mark_table, forward_table, resolution_table, versions_of, HasTable}
 use Rattle.sqlite.specs.Table.{Table}
 use Rattle.rtgs_rows.specs.Dues.{without_due, forward_for, forwards_of}
-use Rattle.rtgs_rows.specs.Fitting.{FitsDate, FitsParticipant, FitsPayment, FitsOrder, FitsForward}
-use Rattle.rtgs_rows.specs.Rows.{desk_row, desk_row_of, posting_row, payment_row, mark_row, forward_row, resolution_row}
+use Rattle.rtgs_rows.specs.Fitting.{FitsDate, FitsParticipant, FitsUndated, FitsOrder, FitsForward}
+use Rattle.rtgs_rows.specs.Rows.{desk_row, desk_row_of, posting_row, order_row, mark_row, forward_row, resolution_row}
 use Rattle.rtgs_rows.specs.Rows.{resolution_row_of, shown_account}
 use Rattle.rtgs_rows.specs.TableRecords.{TableRecords, desk_records, account_records, posting_records, order_records}
 use Rattle.rtgs_rows.specs.TableRecords.{mark_records, forward_records, resolution_records, HasNoMoreBeyond, at_first}
@@ -152,14 +152,14 @@ postings_own = own_numbered posting_records posting_row (λ p. p.number) (λ ver
     )
 
 -- the rows of orders are those of the orders without their due dates
-plainly : (os : List Order) → map payment_row os ≡ map payment_row (map without_due os)
-plainly os = sym (plain_rows payment_row without_due (λ o. refl) os)
+rows_without_due : (os : List Order) → map order_row os ≡ map order_row (map without_due os)
+rows_without_due os = sym (plain_rows order_row without_due (λ o. refl) os)
 
 plain_fit : (os : List Order) → AllByRecursion FitsOrder os
-    → AllByRecursion (λ (o : Order). FitsPayment o × (o.due ≡ None)) (map without_due os)
+    → AllByRecursion (λ (o : Order). FitsUndated o × (o.due ≡ None)) (map without_due os)
 plain_fit [] fits = tt
 plain_fit (o ∷ os) fits =
-    let it = fits.0.payment in (
+    let it = fits.0.undated in (
       (
         record {
           sender = it.sender;
@@ -177,18 +177,18 @@ plain_rise : (os : List Order) → Rise (λ (o : Order). pos o.number) os
     → Rise (λ (o : Order). pos o.number) (map without_due os)
 plain_rise = ascending-map (λ (a b : Order). int_cmp (pos a.number) (pos b.number) ≡ Less) without_due
 
-pub payments_own : ShowsOwn order_records
-payments_own = own_numbered order_records payment_row (λ o. o.number) (λ version c. map without_due c.orders)
+pub orders_own : ShowsOwn order_records
+orders_own = own_numbered order_records order_row (λ o. o.number) (λ version c. map without_due c.orders)
     (λ a b low. then-Equal _ ∙ value_cmp-Int (pos a.number) (pos b.number) ∙ low) (λ a. refl)
     (λ version c accounts book are. (
       plain_fit book.orders are.fits.orders,
       plain_rise c.orders are.order.orders,
       ap (map without_due) are.lists.orders,
     )) (
-      λ c trees held. ap (rows_in payment_table) held ∙ plainly c.orders,
+      λ c trees held. ap (rows_in order_table) held ∙ rows_without_due c.orders,
       (
-        λ c trees held. ap (rows_in payment_table) held ∙ plainly c.orders,
-        (λ c trees held. ap (rows_in payment_table) held ∙ plainly c.orders, tt),
+        λ c trees held. ap (rows_in order_table) held ∙ rows_without_due c.orders,
+        (λ c trees held. ap (rows_in order_table) held ∙ rows_without_due c.orders, tt),
       ),
     )
 
@@ -270,7 +270,7 @@ pub ruleset queries = (
   participants_own,
   postings_own,
   posting_same,
-  payments_own,
+  orders_own,
   order_same,
   marks_own,
   mark_same,

@@ -126,9 +126,9 @@ pub numbered : {A : Type 0} (t : Table) (row shown : A → Row) (id : A → ℤ)
     → ((a b : A) → int_cmp (id a) (id b) ≡ Less → output_cmp (whole_table t)
     (output (whole_table t) ([] ∷ row a ∷ [])) (output (whole_table t) ([] ∷ row b ∷ [])) ≡ Less)
     → ((a : A) → (output (whole_table t) ([] ∷ row a ∷ [])).1 ≡ shown a)
-    → (all told : List A) → IsAscending (λ a b. int_cmp (id a) (id b) ≡ Less) all → all ≡ told
-    → (stored rows : List Row) → stored ≡ map row all → Sorts (whole_table t) [] stored rows → rows ≡ map shown told
-numbered {A = A} t row shown id by shows all told up same stored rows here s =
+    → (all listed : List A) → IsAscending (λ a b. int_cmp (id a) (id b) ≡ Less) all → all ≡ listed
+    → (stored rows : List Row) → stored ≡ map row all → Sorts (whole_table t) [] stored rows → rows ≡ map shown listed
+numbered {A = A} t row shown id by shows all listed up same stored rows here s =
     let q = whole_table t in
     let out = λ (a : A). output q ([] ∷ row a ∷ []) in
     shown_are q stored rows (map out all)

@@ -41,9 +41,9 @@ use Rattle.rtgs_book.specs.Books.{is_held, is_held_state}
 use Rattle.rtgs_book.specs.Settle.{altered}
 use Rattle.rtgs_book.specs.Commands.{has_number, is_held_with, entered}
 use Rattle.rtgs_money.specs.Date.{date_text}
-use Rattle.rtgs_rows.specs.Rows.{mark_value, state_number, payment_row}
+use Rattle.rtgs_rows.specs.Rows.{mark_value, state_number, order_row}
 use Rattle.rtgs_rows.specs.Content.{rows_in, Content, IsUnderWay, IsInOrder, with_change}
-use Rattle.rtgs_rows.specs.Tables.{schema_in, payment_table as table}
+use Rattle.rtgs_rows.specs.Tables.{schema_in, order_table as table}
 use Rattle.rtgs_lists.proofs.Bools.{and_right_false}
 use Rattle.rtgs_lists.proofs.Results.{none_moved}
 use Rattle.rtgs_lists.proofs.Filters.{filter_of}
@@ -112,7 +112,7 @@ module _ (number date : ℕ) where
   abbrev hit : Order → Bool
   hit = is_held_with number
 
-  passes_held : (o : Order) → passes tests enter_given (payment_row o) ≡ hit o
+  passes_held : (o : Order) → passes tests enter_given (order_row o) ≡ hit o
   unfolding binary
   passes_held o =
       two_truths (is_eq (value_cmp (Int (pos o.number)) (Int (pos number))))
@@ -126,17 +126,17 @@ module _ (number date : ℕ) where
   entering = map (altered hit (entered date))
 
   abbrev IsOne : List Order → Type 0
-  IsOne = Replaces payment_row (λ o. pos o.number) (λ _. refl) hit (entered date) (λ _. refl)
+  IsOne = Replaces order_row (λ o. pos o.number) (λ _. refl) hit (entered date) (λ _. refl)
 
-  enter_edit : (trees : Trees) (all : List Order) (rows : List Row) → trees table.tree ≡ map payment_row all
-      → ((filter hit all ≡ []) × (map payment_row (entering all) ≡ map payment_row all)) ⊎ IsOne all
-      → IsPermutation (map (shows project enter_given) (map payment_row (filter hit all))) rows
-      → edited trees (edit_of trees table (ids_of rows) Given 1 rows) ≡ map payment_row (entering all)
+  enter_edit : (trees : Trees) (all : List Order) (rows : List Row) → trees table.tree ≡ map order_row all
+      → ((filter hit all ≡ []) × (map order_row (entering all) ≡ map order_row all)) ⊎ IsOne all
+      → IsPermutation (map (shows project enter_given) (map order_row (filter hit all))) rows
+      → edited trees (edit_of trees table (ids_of rows) Given 1 rows) ≡ map order_row (entering all)
   enter_edit trees all rows are (inl none) same =
       let empty : rows ≡ [] = none_moved _ rows (rw none.0) same in
       rw (empty, are, none.1)
   enter_edit trees all rows are (inr it) same =
-      let one : rows ≡ shows project enter_given (payment_row it.one) ∷ [] =
+      let one : rows ≡ shows project enter_given (order_row it.one) ∷ [] =
       one_permutation _ rows (rw it.passed at same) in
       let found : hit it.one ≡ true = (subst (AllByRecursion (λ o. hit o ≡ true)) it.passed (each_passes hit all)).0 in
       let none : mark_value it.one.state ≡ Null = unmarked it.one.state
@@ -161,14 +161,14 @@ module _ (number date : ℕ) where
       let all = content.orders in
       let made = updated enter_text 3 (omega arith) old new enter_given count stands.schema h.0 answers table.tree
       tests project enter_means in
-      let here : old.now.trees table.tree ≡ map payment_row all = ap (rows_in table) stands.holds.rows in
-      let passed : filter (passes tests enter_given) (old.now.trees table.tree) ≡ map payment_row (filter hit all) =
-      rw here (filter_of payment_row _ hit passes_held all) in
-      let found = replaces payment_row (λ o. pos o.number) (λ _. refl) hit (entered date) (λ _. refl) all order.orders
+      let here : old.now.trees table.tree ≡ map order_row all = ap (rows_in table) stands.holds.rows in
+      let passed : filter (passes tests enter_given) (old.now.trees table.tree) ≡ map order_row (filter hit all) =
+      rw here (filter_of order_row _ hit passes_held all) in
+      let found = replaces order_row (λ o. pos o.number) (λ _. refl) hit (entered date) (λ _. refl) all order.orders
       (apart number all order.orders) in
-      let rows : new.now.trees table.tree ≡ map payment_row (entering all) =
+      let rows : new.now.trees table.tree ≡ map order_row (entering all) =
       made.2.rows ∙ enter_edit old.now.trees all made.0 here found
       (subst (λ f. IsPermutation (map (shows project enter_given) f) made.0) passed made.1) in
       stands_on was old new content (with_change content (EnterQueue number date)) stands h.1 made.2.schema
       made.2.sound (framed table.tree old.now.trees new.now.trees _ rows made.2.frame
-      ∙ ap (with_rows table (map payment_row (entering all))) stands.holds.rows)
+      ∙ ap (with_rows table (map order_row (entering all))) stands.holds.rows)

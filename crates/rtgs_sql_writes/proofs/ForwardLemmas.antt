@@ -15,7 +15,7 @@ use Rattle.sqlite.specs.Listing.{understood}
 use Rattle.sqlite.specs.Effect.{Database, value_rows}
 use Rattle.sqlite.specs.State.{State, ExecutesInside}
 use Rattle.sqlite_tied.specs.Compute.{everything}
-use Rattle.rtgs_sql_writes.specs.Staging.{with_payment, with_forward}
+use Rattle.rtgs_sql_writes.specs.Staging.{with_order_row, with_forward}
 use Rattle.rtgs_sql_writes.proofs.Casts.{cast_null, cast_int}
 use Rattle.rtgs_sql_writes.specs.Building.{with_rows}
 use Rattle.rtgs_sql_writes.proofs.Writing.{IsUnderstoodAs}
@@ -61,7 +61,7 @@ adds_forward was content old new number due r values same stands order h =
 -- ---- the rows of an order
 
 -- the one row is all of an order without a due date
-pub one_row : (c : Content) (o : Order) → o.due ≡ None → with_payment c o ≡ with_change c (AddOrder o)
+pub one_row : (c : Content) (o : Order) → o.due ≡ None → with_order_row c o ≡ with_change c (AddOrder o)
 one_row c o none =
     let same : c.forwards ≡ c.forwards ++ forward_for o.number o.due = sym (append-nil c.forwards)
     ∙ ap (λ (due : Option ℕ). c.forwards ++ forward_for o.number due) (sym none) in
@@ -69,7 +69,7 @@ one_row c o none =
 
 -- the two rows are all of one with a due date
 pub two_rows : (c : Content) (o : Order) (due : ℕ) → o.due ≡ Some due
-    → with_forward (with_payment c o) o.number due ≡ with_change c (AddOrder o)
+    → with_forward (with_order_row c o) o.number due ≡ with_change c (AddOrder o)
 two_rows c o due some =
     let same : c.forwards ++ forward_for o.number (Some due) ≡ c.forwards ++ forward_for o.number o.due =
     ap (λ (d : Option ℕ). c.forwards ++ forward_for o.number d) (sym some) in

@@ -30,7 +30,7 @@ use Rattle.sqlite.proofs.Callers.{one_permutation}
 use Rattle.sqlite_tied.specs.Compute.{everything}
 use Rattle.std.proofs.lemmas.Cmp.{int_cmp_total, tied_itself}
 use Rattle.std.proofs.lemmas.Bool.{cases_Bool}
-use Rattle.rtgs_sql_writes.specs.Staging.{with_payment}
+use Rattle.rtgs_sql_writes.specs.Staging.{with_order_row}
 use Rattle.rtgs_sql_writes.proofs.Casts.{cast_null, cast_int, cast_mark, bound_mark}
 use Rattle.rtgs_sql_columns.specs.OneTable.{simple, passes, shows, OneTableAnswers}
 use Rattle.rtgs_sql_writes.proofs.Replacing.{Replaces, replaces}
@@ -45,9 +45,9 @@ use Rattle.rtgs_book.specs.declared.RowChange.TheVariants.{AddOrder, SetState}
 use Rattle.rtgs_book.specs.Settle.{restated}
 use Rattle.rtgs_book.specs.Commands.{has_number}
 use Rattle.rtgs_money.specs.Date.{date_text}
-use Rattle.rtgs_rows.specs.Rows.{mark_value, state_number, payment_row}
+use Rattle.rtgs_rows.specs.Rows.{mark_value, state_number, order_row}
 use Rattle.rtgs_rows.specs.Content.{rows_in, Content, IsUnderWay, IsInOrder, with_change}
-use Rattle.rtgs_rows.specs.Tables.{schema_in, payment_table as table}
+use Rattle.rtgs_rows.specs.Tables.{schema_in, order_table as table}
 use Rattle.rtgs_lists.proofs.Results.{none_moved}
 use Rattle.rtgs_lists.proofs.Filters.{filter_of}
 
@@ -67,7 +67,7 @@ params o = Int (pos o.number) ∷ Text o.sender ∷ Text o.reference ∷ Text o.
     ∷ Int (pos (state_number o.state)) ∷ mark_value o.state ∷ Text (date_text o.date) ∷ []
 
 edit : (trees : Trees) (o : Order) → edited trees (edit_of trees table [] Chosen 0
-    (value_rows (stamped table (params o)) 9 1 terms)) ≡ put_row (payment_row o) (trees table.tree)
+    (value_rows (stamped table (params o)) 9 1 terms)) ≡ put_row (order_row o) (trees table.tree)
 edit trees o = rw (
   cast_int (pos o.number),
   cast_null,
@@ -84,14 +84,14 @@ given_is : (o : Order) → order_given o ≡ params o
 given_is o = ap (λ mark. Int (pos o.number) ∷ Text o.sender ∷ Text o.reference ∷ Text o.receiver ∷ Int (pos o.amount)
     ∷ Int (pos (state_number o.state)) ∷ mark ∷ Text (date_text o.date) ∷ []) (bound_mark o.state)
 
-pub adds_payment : (was : Database) (content : Content) (old new : State) (o : Order) (r : Result ℕ Error)
+pub adds_order_row : (was : Database) (content : Content) (old new : State) (o : Order) (r : Result ℕ Error)
     (values : Row) → values ≡ order_given o → IsUnderWay was content old → IsInOrder (with_change content (AddOrder o))
-    → ExecutesInside 0 order_text values old new r → OnOk r (IsUnderWay was (with_payment content o) new)
-adds_payment was content old new o r values same stands order h =
-    adds order_text 3 (omega arith) terms 9 payment_row (λ q. pos q.number) (λ _. refl) order_means (params o) o
-    (λ trees. edit trees o) was content (with_payment content o) content.orders old new r stands
+    → ExecutesInside 0 order_text values old new r → OnOk r (IsUnderWay was (with_order_row content o) new)
+adds_order_row was content old new o r values same stands order h =
+    adds order_text 3 (omega arith) terms 9 order_row (λ q. pos q.number) (λ _. refl) order_means (params o) o
+    (λ trees. edit trees o) was content (with_order_row content o) content.orders old new r stands
     (ap (rows_in table) stands.holds.rows) order.orders
-    (ap (with_rows table (map payment_row (content.orders ++ o ∷ []))) stands.holds.rows)
+    (ap (with_rows table (map order_row (content.orders ++ o ∷ []))) stands.holds.rows)
     (subst (λ all. ExecutesInside 0 order_text all old new r) (same ∙ given_is o) h)
 
 -- ---- the state of one order
@@ -111,7 +111,7 @@ unfolding understood everything schema_in
 set_state_means = record { is = refl; plain = (refl, refl) }
 
 passes_one : (number : ℕ) (state mark : Value) (o : Order) → passes tests (Int (pos number) ∷ state ∷ mark ∷ [])
-    (payment_row o) ≡ has_number number o
+    (order_row o) ≡ has_number number o
 unfolding binary
 passes_one number state mark o = truth_of _ ∙ same_number o.number number
 
@@ -145,19 +145,19 @@ module _ (number : ℕ) (state : OrderState) where
   state_params = Int (pos number) ∷ Int (pos (state_number state)) ∷ mark_value state ∷ []
 
   abbrev IsOne : List Order → Type 0
-  IsOne = Replaces payment_row (λ o. pos o.number) (λ _. refl) (has_number number) (set_to state) (λ _. refl)
+  IsOne = Replaces order_row (λ o. pos o.number) (λ _. refl) (has_number number) (set_to state) (λ _. refl)
 
-  state_edit : (trees : Trees) (all : List Order) (rows : List Row) → trees table.tree ≡ map payment_row all
-      → ((filter (has_number number) all ≡ []) × (map payment_row (map (restated (has_number number) state) all)
-      ≡ map payment_row all)) ⊎ IsOne all
-      → IsPermutation (map (shows project state_params) (map payment_row (filter (has_number number) all))) rows
+  state_edit : (trees : Trees) (all : List Order) (rows : List Row) → trees table.tree ≡ map order_row all
+      → ((filter (has_number number) all ≡ []) × (map order_row (map (restated (has_number number) state) all)
+      ≡ map order_row all)) ⊎ IsOne all
+      → IsPermutation (map (shows project state_params) (map order_row (filter (has_number number) all))) rows
       → edited trees (edit_of trees table (ids_of rows) Given 1 rows)
-      ≡ map payment_row (map (restated (has_number number) state) all)
+      ≡ map order_row (map (restated (has_number number) state) all)
   state_edit trees all rows are (inl none) same =
       let empty : rows ≡ [] = none_moved _ rows (rw none.0) same in
       rw (empty, are, none.1)
   state_edit trees all rows are (inr it) same =
-      let one : rows ≡ shows project state_params (payment_row it.one) ∷ [] =
+      let one : rows ≡ shows project state_params (order_row it.one) ∷ [] =
       one_permutation _ rows (rw it.passed at same) in
       rw (
         one,
@@ -185,17 +185,17 @@ module _ (number : ℕ) (state : OrderState) where
       let all = content.orders in
       let made = updated set_state_text 3 (omega arith) old new state_params count stands.schema h.0 answers table.tree
       tests project set_state_means in
-      let here : old.now.trees table.tree ≡ map payment_row all = ap (rows_in table) stands.holds.rows in
+      let here : old.now.trees table.tree ≡ map order_row all = ap (rows_in table) stands.holds.rows in
       let passed : filter (passes tests state_params) (old.now.trees table.tree)
-      ≡ map payment_row (filter (has_number number) all) =
-      rw here (filter_of payment_row _ (has_number number) (passes_one number (Int (pos (state_number state)))
+      ≡ map order_row (filter (has_number number) all) =
+      rw here (filter_of order_row _ (has_number number) (passes_one number (Int (pos (state_number state)))
       (mark_value state)) all) in
-      let found = replaces payment_row (λ o. pos o.number) (λ _. refl) (has_number number) (set_to state) (λ _. refl)
+      let found = replaces order_row (λ o. pos o.number) (λ _. refl) (has_number number) (set_to state) (λ _. refl)
       all order.orders (differ number all order.orders) in
-      let rows : new.now.trees table.tree ≡ map payment_row (map (restated (has_number number) state) all) =
+      let rows : new.now.trees table.tree ≡ map order_row (map (restated (has_number number) state) all) =
       made.2.rows ∙ state_edit old.now.trees all made.0 here found
       (subst (λ f. IsPermutation (map (shows project state_params) f) made.0) passed made.1) in
       stands_on was old new content (with_change content (SetState number state)) stands h.1 made.2.schema made.2.sound
       (framed table.tree old.now.trees new.now.trees _ rows made.2.frame
-      ∙ ap (with_rows table (map payment_row (map (restated (has_number number) state) all)))
+      ∙ ap (with_rows table (map order_row (map (restated (has_number number) state) all)))
       stands.holds.rows)

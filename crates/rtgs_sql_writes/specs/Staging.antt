@@ -17,8 +17,8 @@ ChangesTables old new before after =
     HasCleanDisk new → (was : Database) → IsUnderWay was before old → IsUnderWay was after new
 
 -- the records with the row of one more order, which does not say its due date
-abbrev pub with_payment : Content → Order → Content
-with_payment c o = record c { orders = c.orders ++ o ∷ [] }
+abbrev pub with_order_row : Content → Order → Content
+with_order_row c o = record c { orders = c.orders ++ o ∷ [] }
 
 -- and with the row of one more due date, under this number
 abbrev pub with_forward : Content → ℕ → ℕ → Content

@@ -14,12 +14,10 @@ appends-both (Some xs) None new a b p q = absurd p
 appends-both (Some xs) (Some ys) None a b p q = q
 appends-both (Some xs) (Some ys) (Some zs) a b p q = rw (q, p) (append_assoc xs a b)
 
--- a part is a beginning
 pub part-begins : (old new : Option (List ℕ)) (text : List ℕ) → AppendsPart old new text
     → AppendsBeginning old new text
 part-begins old new text part = (take part.0 text, drop part.0 text, part.2, take-append-drop part.0 text)
 
--- nothing is a beginning
 pub nothing-begins : (old : Option (List ℕ)) (text : List ℕ) → AppendsBeginning old old text
 nothing-begins old text = ([], text, appends-none old, refl)
 

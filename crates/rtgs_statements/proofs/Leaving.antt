@@ -9,7 +9,6 @@ pub no_fault : ◌≢◌ {A = Option Refusal} None (Some StoreFault)
 no_fault e = absurd cc
 
 module _ {S : Type 0} (holds leaves : S → Book → Type 0) (is_honest : S → Type 0) (has_failed : S → Bool) where
-  -- nothing was read
   pub nothing_read : (s : S) → ((book : Book) → holds s book → leaves s book)
       → LeavesRead holds leaves is_honest has_failed s s None
   nothing_read s left = record {
@@ -24,7 +23,6 @@ module _ {S : Type 0} (holds leaves : S → Book → Type 0) (is_honest : S → 
     failed_kinds = λ failed. tt;
   }
 
-  -- more was read
   pub read_more : (a b c : S) (ended : Option Refusal) → LeavesRead holds leaves is_honest has_failed a b None
       → LeavesRead holds leaves is_honest has_failed b c ended → LeavesRead holds leaves is_honest has_failed a c ended
   read_more a b c ended one two = record {

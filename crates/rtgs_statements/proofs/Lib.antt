@@ -8,6 +8,6 @@ pub mod Nexts
 pub mod Pads
 pub mod Statements
 pub mod Terms
-pub mod Told
+pub mod RecordsOfDate
 pub mod Wholes
 pub mod Widths

@@ -12,7 +12,7 @@ use Rattle.rtgs_statements.specs.Sums.{sums_of, net}
 use Rattle.rtgs_statements.specs.Texts.{line_text, text_of, sum_lines, statement, statement_text}
 use Rattle.rtgs_statements.proofs.Agreement.{agree}
 use Rattle.rtgs_statements.proofs.Growth.{text_of-append, lines-have_bytes}
-use Rattle.rtgs_statements.proofs.Told.{postings_of_are, orders_of_are}
+use Rattle.rtgs_statements.proofs.RecordsOfDate.{postings_of_are, orders_of_are}
 
 module _ (book : Book) (code : List ℕ) (date : ℕ) where
   abbrev pub title : List ℕ

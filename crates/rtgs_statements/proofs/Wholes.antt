@@ -16,7 +16,7 @@ use Rattle.rtgs_statements.specs.declared.line.Line.TheVariants.{Marks}
 use Rattle.rtgs_statements.specs.declared.row.Row.{Row}
 use Rattle.rtgs_statements.specs.Lines.{row_columns, row_of_posting, row_of_order, row_text}
 use Rattle.rtgs_statements.specs.Reads.{IsWholeLines, AppendsWholeLines, LeavesWholeLines}
-use Rattle.rtgs_statements.specs.Rows.{is_to, is_told_to, posting_row, order_row}
+use Rattle.rtgs_statements.specs.Rows.{is_to, is_shown_to, posting_row, order_row}
 use Rattle.rtgs_statements.specs.Texts.{sum_columns, count_columns, value_columns, account_columns, line_text, text_of}
 use Rattle.rtgs_statements.proofs.Begins.{appends-both}
 use Rattle.rtgs_statements.proofs.Growth.{appends-none}
@@ -52,9 +52,8 @@ pub posting_row-whole : (code : List ℕ) (posting : Posting) → IsWholeLines (
 posting_row-whole code posting = if_whole (is_to code posting) (row_of_posting posting)
 
 pub order_row-whole : (code : List ℕ) (order : Order) → IsWholeLines (order_row code order)
-order_row-whole code order = if_whole (is_told_to code order) (row_of_order code order)
+order_row-whole code order = if_whole (is_shown_to code order) (row_of_order code order)
 
--- nothing was written
 pub none-whole : (old : Option (List ℕ)) → AppendsWholeLines old old
 none-whole old = ([], appends-none old, inl refl)
 

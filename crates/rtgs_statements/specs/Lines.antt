@@ -25,7 +25,7 @@ kind_text OfWithdrawn = word_of standing.Withdrawn
 kind_text OfRejected = word_of standing.Rejected
 kind_text Received = codes "received"
 
--- how its sender is told of an order
+-- how an order is shown to its sender
 abbrev pub kind_of_sent : OrderState → Kind
 kind_of_sent Queued = OfQueued
 kind_of_sent Held = OfHeld

@@ -7,10 +7,10 @@ ghost use Rattle.rtgs_statements.specs.Reads.{LeavesRead, refused_by};
 ghost use Rattle.rtgs_statements.specs.Sums.{sums_at};
 ghost use Rattle.rtgs_statements.specs.Texts.{report};
 
-use crate::gathering::{codes_of, marks_on, ordered_on, posted_on};
 use crate::line::Line;
 use crate::ordered::Ordered;
 use crate::parts::text_of_parts;
+use crate::records_of_date::{codes_of, marks_on, ordered_on, posted_on};
 use crate::source::Source;
 use crate::sums::Sums;
 use crate::totals::total_at;
@@ -35,7 +35,7 @@ impl DaySums {
         source: &mut S,
         date: BusinessDate,
     ) -> Result<DaySums, Refusal>
-        ensures told { S.is_honest source.new → (book : Book) → S.holds source.old book
+        ensures summed { S.is_honest source.new → (book : Book) → S.holds source.old book
             → IfOk result (λ day. IsDayOf day book date) }
         ensures read { LeavesRead S.holds S.leaves S.is_honest S.has_failed source.old source.new (refused_by result) }
     {

@@ -19,7 +19,7 @@ pub enum Kind {
 }
 
 impl Kind {
-    /// How its sender is told of an order.
+    /// How an order is shown to its sender.
     pub fn of_sent(state: OrderState) -> Kind
         ensures { result ≡ kind_of_sent state }
     {

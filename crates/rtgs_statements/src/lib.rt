@@ -4,14 +4,15 @@
 
 mod book_text_fault;
 mod day_sums;
-mod gathering;
 mod kind;
-mod later;
 pub mod laws;
 mod line;
+mod lines;
+mod next_records;
 mod ordered;
 mod parts;
 mod party;
+mod records_of_date;
 mod report;
 mod row;
 mod source;
@@ -21,7 +22,6 @@ mod tallies;
 mod tally;
 mod total;
 mod totals;
-mod writing;
 
 pub use crate::book_text_fault::BookTextFault;
 pub use crate::report::write_report;

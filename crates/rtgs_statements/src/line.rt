@@ -67,7 +67,6 @@ fn account_text(alloc: Global, code: &Code, sums: Sums) -> Result<String, AllocE
     )
 }
 
-// A label and a sum.
 fn sum_columns(alloc: Global, label: &str, sum: &str) -> Result<String, AllocError>
     requires label { IsAscii label.now }
     requires sum { IsAscii sum.now }
@@ -76,7 +75,6 @@ fn sum_columns(alloc: Global, label: &str, sum: &str) -> Result<String, AllocErr
     format!(in alloc; "{label:<10} {sum:>30}\n")
 }
 
-// A label and a count.
 fn count_columns(alloc: Global, label: &str, count: usize) -> Result<String, AllocError>
     requires { IsAscii label.now }
     ensures { IfOk result (λ text. string_bytes text ≡ count_columns label.now count) }

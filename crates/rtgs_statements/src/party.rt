@@ -13,7 +13,6 @@ pub enum Party {
 }
 
 impl Party {
-    /// The party's code.
     pub fn code(self, order: &Order) -> Code
         ensures { result ≡ party_code self order.now }
     {

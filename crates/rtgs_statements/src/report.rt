@@ -45,9 +45,8 @@ pub fn write_report<S: Source, W: Write>(
     }
 }
 
-// The text of the report.
 fn text_of<S: Source>(alloc: Global, source: &mut S, date: BusinessDate) -> Result<String, Refusal>
-    ensures told { S.is_honest source.new → (book : Book) → S.holds source.old book
+    ensures made { S.is_honest source.new → (book : Book) → S.holds source.old book
         → IfOk result (λ text. string_bytes text ≡ report book date) }
     ensures read { LeavesRead S.holds S.leaves S.is_honest S.has_failed source.old source.new (refused_by result) }
 {

@@ -24,7 +24,6 @@ pub struct Row {
 }
 
 impl Row {
-    /// The row of a posting.
     pub fn of_posting(posting: &Posting) -> Row
         ensures { result ≡ row_of_posting posting.now }
     {
@@ -63,7 +62,6 @@ impl Row {
         }
     }
 
-    /// The row's line.
     pub fn text(&self, alloc: Global) -> Result<String, AllocError>
         ensures { IfOk result (λ line. string_bytes line ≡ row_text self.now) }
     {

@@ -26,21 +26,21 @@ pub trait Source {
     /// The posting of this date with the least number above the given one.
     fn next_posting(&mut self, date: BusinessDate, number: u64) -> Result<Option<Posting>, Refusal>
         ensures read { LeavesRead holds leaves is_honest has_failed self.old self.new (refused_by result) }
-        ensures told { is_honest self.new → (book : Book) → holds self.old book
+        ensures found { is_honest self.new → (book : Book) → holds self.old book
             → IfOk result (λ next. next ≡ posting_after book date number) }
         ensures failed { has_failed self.old ≡ true → (result ≡ Err Refusal.Failed) × (self.new ≡ self.old) };
 
     /// The order of this date with the least number above the given one.
     fn next_order(&mut self, date: BusinessDate, number: u64) -> Result<Option<Order>, Refusal>
         ensures read { LeavesRead holds leaves is_honest has_failed self.old self.new (refused_by result) }
-        ensures told { is_honest self.new → (book : Book) → holds self.old book
+        ensures found { is_honest self.new → (book : Book) → holds self.old book
             → IfOk result (λ next. next ≡ order_after book date number) }
         ensures failed { has_failed self.old ≡ true → (result ≡ Err Refusal.Failed) × (self.new ≡ self.old) };
 
     /// The mark of this date with the least number above the given one.
     fn next_mark(&mut self, date: BusinessDate, number: u64) -> Result<Option<Mark>, Refusal>
         ensures read { LeavesRead holds leaves is_honest has_failed self.old self.new (refused_by result) }
-        ensures told { is_honest self.new → (book : Book) → holds self.old book
+        ensures found { is_honest self.new → (book : Book) → holds self.old book
             → IfOk result (λ next. next ≡ mark_after book date number) }
         ensures failed { has_failed self.old ≡ true → (result ≡ Err Refusal.Failed) × (self.new ≡ self.old) };
 

@@ -8,18 +8,18 @@ ghost use Rattle.rtgs_statements.specs.Reads.{AppendsWholeLines, LeavesLines, Le
 ghost use Rattle.rtgs_statements.specs.Records.{postings_on, orders_on};
 ghost use Rattle.rtgs_statements.specs.Rows.{posting_row, order_row, posting_rows, order_rows, cents_posted_to};
 ghost use Rattle.rtgs_statements.specs.Rows.{settled_by};
-ghost use Rattle.rtgs_statements.specs.Rows.{is_told_to};
+ghost use Rattle.rtgs_statements.specs.Rows.{is_shown_to};
 ghost use Rattle.rtgs_statements.specs.Sums.{IsSmall, posted, sent, received};
 ghost use Rattle.rtgs_statements.specs.Texts.{statement};
 
 use crate::book_text_fault::BookTextFault;
-use crate::later::{later_order, later_posting};
 use crate::line::Line;
+use crate::lines::{write_four, write_line};
+use crate::next_records::{later_order, later_posting};
 use crate::party::Party;
 use crate::row::Row;
 use crate::source::Source;
 use crate::sums::{Sums, sum_lines};
-use crate::writing::{write_four, write_line};
 use rtgs_book::{Order, OrderState, Posting};
 use rtgs_cores::laws::records_are_listed;
 use rtgs_money::{BusinessDate, Code};
@@ -108,7 +108,7 @@ fn write_postings<S: Source, W: Write>(
     }
 }
 
-// Writes the rows of the orders of the date that the participant is told of, and gives what it sent and received.
+// Writes the rows of the orders of the date that the participant is shown, and gives what it sent and received.
 fn write_orders<S: Source, W: Write>(
     alloc: Global,
     out: &mut W,
@@ -174,7 +174,7 @@ fn write_posting<W: Write>(
     }
 }
 
-// Writes the row of an order that the participant is told of.
+// Writes the row of an order that the participant is shown.
 fn write_order<W: Write>(
     alloc: Global,
     out: &mut W,
@@ -186,9 +186,10 @@ fn write_order<W: Write>(
         (order_row code.now order.now)) }
     ensures memory { IfErr result (λ fault. fault ≡ TextFault.OutOfMemory → out.new ≡ out.old) }
 {
-    if !is_told_to(code, order) {
+    if !is_shown_to(code, order) {
         return Ok(());
     }
+    // The contract is by cases of the result, and the prover sees them where it is taken apart.
     match write_line(alloc, out, &Line::Record(Row::of_order(code, order))) {
         Ok(()) => Ok(()),
         Err(fault) => Err(fault),
@@ -196,8 +197,8 @@ fn write_order<W: Write>(
 }
 
 // Whether the participant sent the order, or it is settled and was sent to it.
-fn is_told_to(code: &Code, order: &Order) -> bool
-    ensures { result ≡ is_told_to code.now order.now }
+fn is_shown_to(code: &Code, order: &Order) -> bool
+    ensures { result ≡ is_shown_to code.now order.now }
 {
     let is_settled = matches!(order.state, OrderState::Settled(_));
     order.sender == *code || (is_settled && order.receiver == *code)

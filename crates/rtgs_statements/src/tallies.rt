@@ -64,7 +64,6 @@ impl Tallies {
     }
 }
 
-// The line of a standing.
 fn line(standing: Standing, tally: Tally) -> Line
     ensures { result ≡ Line.Orders standing tally.count tally.cents }
 {

@@ -48,7 +48,7 @@ module _ {S : Type 0} (g : Ghosts S) (old new : Held S) (as_such : (version : �
     shown = (made.version, made.older refl, made.book, made.judged.sound, made.judged.loads.displayed);
     kept = λ version known schema whole.
         let file = file_at_rest version was known rest schema in
-        let (book, tells, now) = it.told version was.committed.trees file whole in (
+        let (book, tells, now) = it.answered version was.committed.trees file whole in (
           book,
           record {
             version = version;
@@ -78,7 +78,7 @@ module _ {S : Type 0} (g : Ghosts S) (old new : Held S) (as_such : (version : �
     );
     kept = λ schema whole.
         let file = file_at_rest VERSION was current_is_known rest schema in
-        let (book, tells, now) = it.told VERSION was.committed.trees file whole in (
+        let (book, tells, now) = it.answered VERSION was.committed.trees file whole in (
           book,
           newest_tables book was.committed.trees tells,
         );
@@ -123,7 +123,7 @@ module _ {S : Type 0} (g : Ghosts S) (old new : Held S) (as_such : (version : �
       cause = cause;
       explained = λ version known schema.
           why.rows version was.committed.trees (file_at_rest version was known rest schema);
-      told = why.shown;
+      by_queries = why.shown;
       no_rule = no_rule;
       leaves = λ other trees left. settled trees (only other trees left);
       stops = λ trees left. elim (crash trees left) [ inl found ↦ inl (settled trees found) | inr made ↦ inr made ];

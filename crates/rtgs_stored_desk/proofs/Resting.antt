@@ -96,11 +96,11 @@ pub new_is_calm : IsCalm new_book
 new_is_calm automatic choice greatest = let bad : false ≡ true = automatic in cc
 
 -- why a desk was not opened: for lack of memory, by what a loading tells, or because the book is not calm
-pub why : {Memory Told Restless Explained NotCalm : Type 0} → (Memory → Explained) → (Told → Explained)
-    → (Restless → NotCalm) → Memory ⊎ (Told ⊎ Restless) → Explained ⊎ NotCalm
-why memory told restless (inl it) = inl (memory it)
-why memory told restless (inr (inl it)) = inl (told it)
-why memory told restless (inr (inr it)) = inr (restless it)
+pub why : {Memory Displayed Restless Explained NotCalm : Type 0} → (Memory → Explained) → (Displayed → Explained)
+    → (Restless → NotCalm) → Memory ⊎ (Displayed ⊎ Restless) → Explained ⊎ NotCalm
+why memory displayed restless (inl it) = inl (memory it)
+why memory displayed restless (inr (inl it)) = inl (displayed it)
+why memory displayed restless (inr (inr it)) = inr (restless it)
 
 pub making_cause : (fault : CommitFault) → IsMemoryOrStore (fault_of_commit fault)
 making_cause commit.OutOfMemory = inl refl
@@ -122,6 +122,6 @@ pub memory_tells : (db : Database) (fault : Fault) → fault ≡ OutOfMemory
 memory_tells db fault memory = subst (ExplainsDatabase VERSION db) (sym memory) tt
 
 pub making_memory : (fault : CommitFault) → fault_of_commit fault ≡ OutOfMemory → fault ≡ commit.OutOfMemory
-making_memory commit.OutOfMemory told = refl
-making_memory commit.Store told = absurd cc
-making_memory commit.Failed told = absurd cc
+making_memory commit.OutOfMemory same = refl
+making_memory commit.Store same = absurd cc
+making_memory commit.Failed same = absurd cc

@@ -74,7 +74,7 @@ pub record IsUnmigrated (old : State) (fault : Fault) (new : State) : Type 0 whe
   pub explained : (version : ℕ) → IsVersion version → old.committed.schema ≡ schema_in version
       → ExplainsTrees version old.committed.trees fault
   -- whatever tables there were, what the queries show explains it, or memory was refused or the store failed
-  pub told : ExplainsVersions old.now fault
+  pub by_queries : ExplainsVersions old.now fault
   -- a database that has no tables breaks no rule
   pub no_rule : HasNoTables old.committed.trees → (rule : Rule) → fault ≢ Inconsistent rule
   -- a stop leaves what was found

@@ -89,7 +89,7 @@ pub record IsRefused (old : State) (fault : Fault) (new : State) : Type 0 where
   -- whatever tables there were, a query has no answer over them, or shows a row in no form; or this is the first rule
   -- that the records break which the queries show; or the queries show a sound book that is not calm; or memory was
   -- refused or the store failed
-  pub told : ExplainsDatabase VERSION old.now fault ⊎ IsNotCalmAs (IsDisplayed VERSION old.now) fault
+  pub by_queries : ExplainsDatabase VERSION old.now fault ⊎ IsNotCalmAs (IsDisplayed VERSION old.now) fault
   -- a database that has no tables breaks no rule
   pub no_rule : HasNoTables old.committed.trees → (rule : Rule) → fault ≢ Inconsistent rule
   -- a stop leaves what was found

@@ -2,13 +2,13 @@
 //! after a stop. And tables of an earlier version, which are brought to the newest.
 #![tactic(auto)]
 
+mod commands;
 pub mod laws;
-mod making;
-mod migrating;
+mod migration;
+mod new_book;
 mod opening;
-mod running;
 
-pub use crate::making::make;
-pub use crate::migrating::migrate;
+pub use crate::commands::{run, submit};
+pub use crate::migration::migrate;
+pub use crate::new_book::make;
 pub use crate::opening::{create, open};
-pub use crate::running::{run, submit};

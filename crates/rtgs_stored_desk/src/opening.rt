@@ -8,7 +8,7 @@ ghost use Rattle.rtgs_rows.specs.Tables.{no_schema};
 ghost use Rattle.rtgs_tables.specs.Building.{IsBlank};
 ghost use Rattle.rtgs_stored_desk.specs.Stored.{IsAtRest, IsOver, IsRefused, IsUnmade};
 
-use crate::making::make;
+use crate::new_book::make;
 use rtgs_book::Fault;
 use rtgs_desk::Desk;
 use rtgs_keeper::Keeper;
@@ -42,7 +42,7 @@ pub fn create<S: Alter + Drop>(
 }
 
 /// Opens the desk over the tables of a database. The tables stay as they were found, and on a fault the keeper comes
-/// back: a fault of the store is told only where the keeper has failed.
+/// back: a fault of the store is answered only where the keeper has failed.
 pub fn open<S: Alter + Drop>(
     alloc: Global,
     conn: Connection<S>,
@@ -71,6 +71,7 @@ pub(crate) fn rests<S: Alter>(conn: &Connection<S>)
     requires { conn.now.in_transaction ≡ false }
     ensures { IsTrue (state S.Store conn.now).is_open → IsAtRest (state S.Store conn.now) }
 {
+    // Both calls are for their contracts alone.
     conn.is_autocommit();
     conn.schema();
 }

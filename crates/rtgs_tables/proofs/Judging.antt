@@ -47,24 +47,24 @@ of_sound accounts book sound agree (Inconsistent rule) why = absurd (why.broken 
 
 -- and what holds of the one holds of the other
 pub passed_on : {A B : Type 0} (P : Fault → Type 0) (met : Result A Fault) (fault : Fault) (answer : Result B Fault)
-    → met ≡ Err fault → IsErrAnd answer (λ told. told ≡ fault) → IfErr met P → IfErr answer P
-passed_on P met fault (Ok b) was told holds = tt
-passed_on {A = A} P met fault (Err told_fault) was told holds =
-    subst P (sym told) (subst (λ (r : Result A Fault). IfErr r P) was holds)
+    → met ≡ Err fault → IsErrAnd answer (λ passed. passed ≡ fault) → IfErr met P → IfErr answer P
+passed_on P met fault (Ok b) was passed holds = tt
+passed_on {A = A} P met fault (Err passed_fault) was passed holds =
+    subst P (sym passed) (subst (λ (r : Result A Fault). IfErr r P) was holds)
 
 -- an answer that tells the fault that was met is that fault
-pub told_so : {A B : Type 0} (met : Result A Fault) (fault kind : Fault) (answer : Result B Fault) → met ≡ Err fault
-    → IsErrAnd answer (λ told. told ≡ fault) → met ≡ Err kind → answer ≡ Err kind
-told_so met fault kind (Ok b) was told is = absurd told
-told_so {A = A} met fault kind (Err it) was told is =
+pub passed_as : {A B : Type 0} (met : Result A Fault) (fault kind : Fault) (answer : Result B Fault) → met ≡ Err fault
+    → IsErrAnd answer (λ passed. passed ≡ fault) → met ≡ Err kind → answer ≡ Err kind
+passed_as met fault kind (Ok b) was passed is = absurd passed
+passed_as {A = A} met fault kind (Err it) was passed is =
     let same : ◌≡◌ {A = Result A Fault} (Err fault) (Err kind) = sym was ∙ is in
     let both : fault ≡ kind = cc in
-    ap Err (told ∙ both)
+    ap Err (passed ∙ both)
 
 -- the same fault explains whatever records there are
 pub explained : (s : State) (answer : Result Book Fault) → LoadsFrom VERSION s answer → IfErr answer (ExplainsLoad s)
 explained s (Ok it) loads = tt
-explained s (Err fault) loads = (loads.explained, (loads.caused, loads.told))
+explained s (Err fault) loads = (loads.explained, (loads.caused, loads.by_queries))
 
 pub accepted : (accounts : List Account) (book : Book) (answer : Result Book Fault) → IsSound book
     → AreBalances book accounts → IfErr answer (ExplainsRead accounts book)

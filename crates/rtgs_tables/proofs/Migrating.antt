@@ -226,19 +226,19 @@ module _ (s : State) (version : ℕ) (desk : DeskRow) (is : desk.version ≡ ver
         subst (λ v. ExplainsTrees v trees NotADeskFile) same
         (loads.caused trees (subst (λ v. IsFileIn v trees s) (sym same) file)) formed
     its_rows (Inconsistent rule) loads other trees file =
-        let told = loads.told in
+        let reasons = loads.by_queries in
         let same = same_version other version file.known (known_by version loads.unknown (λ e. cc)) s.now
         (schema_of other trees s file) free
-        (last_read version (known_by version loads.unknown (λ e. cc)) s.now told.0 told.1 told.2) in
+        (last_read version (known_by version loads.unknown (λ e. cc)) s.now reasons.0 reasons.1 reasons.2) in
         subst (λ v. ExplainsTrees v trees (Inconsistent rule)) (sym same)
         (loads.caused trees (subst (λ v. IsFileIn v trees s) same file))
 
     its_versions : (fault : Fault) → LoadsFrom version s (Err fault) → ExplainsVersions s.now fault
     its_versions OutOfMemory loads = tt
     its_versions StoreFault loads = tt
-    its_versions NotADeskFile loads = inr (version, said, inl loads.told)
+    its_versions NotADeskFile loads = inr (version, said, inl loads.by_queries)
     its_versions (Inconsistent rule) loads =
-        (version, known_by version loads.unknown (λ e. cc), said, loads.told)
+        (version, known_by version loads.unknown (λ e. cc), said, loads.by_queries)
 
     pub loaded_explained : (fault : Fault) → LoadsFrom version s (Err fault) → ExplainsMigration s fault
     loaded_explained fault loads = record {
@@ -286,7 +286,7 @@ loads_before version old mid answer keeps same loads = record {
   shown = λ trees file. loads.shown trees (keeps.file version trees file);
   caused = λ trees file. loads.caused trees (keeps.file version trees file);
   displayed = subst (λ (d : Database). IfOk answer (IsDisplayed version d)) same loads.displayed;
-  told = subst (λ (d : Database). IfErr answer (ExplainsDatabase version d)) same loads.told;
+  by_queries = subst (λ (d : Database). IfErr answer (ExplainsDatabase version d)) same loads.by_queries;
   unknown = loads.unknown;
 }
 
@@ -333,9 +333,9 @@ memory_of fault (inr store) other = absurd (other store)
 
 -- an answer that tells a fault
 pub of_fault : {A : Type 0} (P : Result A Fault → Type 0) (answer : Result A Fault) (fault : Fault)
-    → IsErrAnd answer (λ told. told ≡ fault) → P (Err fault) → P answer
-of_fault P (Ok it) fault told is = absurd told
-of_fault {A = A} P (Err it) fault told is = subst (λ f. P (Err f)) (sym told) is
+    → IsErrAnd answer (λ passed. passed ≡ fault) → P (Err fault) → P answer
+of_fault P (Ok it) fault passed is = absurd passed
+of_fault {A = A} P (Err it) fault passed is = subst (λ f. P (Err f)) (sym passed) is
 
 rests_at : (version : ℕ) (s : State) (trees : Trees) (content : Content) → IsFileIn version trees s
     → HoldsIn version content trees → RestsIn version content s
@@ -398,7 +398,7 @@ module _ {S : Type 0} (g : Ghosts S) (in_order : RecordsStandInOrder) (old new :
       migrated = λ version book older. tt;
       repeated = λ book holds. tt;
       accepted = why;
-      told = λ version trees file whole. tt;
+      answered = λ version trees file whole. tt;
       stops = stops;
       stays = stays;
     }
@@ -435,7 +435,7 @@ module _ {S : Type 0} (g : Ghosts S) (in_order : RecordsStandInOrder) (old new :
                 (refl, (older.content, at other older.content older.rests older.no_more, older.same));
             repeated = λ book holds. let is = its_version VERSION holds.0 holds.1 in absurd (omega (arith, is, earlier));
             accepted = λ other book it. tt;
-            told = λ other trees file whole.
+            answered = λ other trees file whole.
                 let is = judged.alone other trees file in
                 let tells = subst (λ v. TellIn v book trees) (sym is) (judged.loads.held trees
                 (subst (λ v. IsFileIn v trees (state g old)) is file) (subst (λ v. AreWholeIn v trees) is whole)) in
@@ -455,7 +455,7 @@ module _ {S : Type 0} (g : Ghosts S) (in_order : RecordsStandInOrder) (old new :
                 absurd (let low = older.earlier in omega (arith, is, low, late));
             repeated = λ book holds. (refl, (holds.0, at holds.0 holds.1, holds.2));
             accepted = λ other book it. tt;
-            told = λ other trees file whole.
+            answered = λ other trees file whole.
                 let is = judged.alone other trees file in
                 let newest = at_newest other is file.known late in
                 let tells = judged.loads.held trees (subst (λ v. IsFileIn v trees (state g old)) is file)

@@ -39,9 +39,9 @@ kept_book : (s : State) (trees : Trees) (answer : Result Book Fault)
     → IfOk answer (λ it. TellIn VERSION it trees)
     → (answer ≢ Err StoreFault → IsDeskFile trees s)
     → IfOk answer (λ it. (content : Content) × Rests content s × IsBookOf it content)
-kept_book s trees (Ok it) told file =
-    (told.content, rests_of told.content s trees (file (λ e. cc)) told.holds, told.same)
-kept_book s trees (Err fault) told file = tt
+kept_book s trees (Ok it) tells file =
+    (tells.content, rests_of tells.content s trees (file (λ e. cc)) tells.holds, tells.same)
+kept_book s trees (Err fault) tells file = tt
 
 shown_always : (s : State) (answer : Result Book Fault) → LoadsFrom VERSION s answer → IfOk answer (ShowsBalanced s)
 shown_always s (Ok it) loads = (loads.shown, loads.displayed)

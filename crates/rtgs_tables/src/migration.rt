@@ -11,7 +11,7 @@ ghost use Rattle.rtgs_tables.specs.Migrating.{IsJudged, WasJudged, IsWritten, Ex
 ghost use Rattle.sqlite.specs.State.{HasCleanDisk, Survives};
 ghost use Rattle.sqlite.specs.Held.{state};
 
-use crate::stopping::{fault_of, fault_of_commit};
+use crate::faults::{fault_of, fault_of_commit};
 use rtgs_book::Fault;
 use rtgs_rows::laws::records_stand_in_order;
 use rtgs_rows::numbers::VERSION;

@@ -15,7 +15,7 @@ ghost use Rattle.rtgs_rows.specs.Content.{Content, Holds, HasNoTables};
 ghost use Rattle.rtgs_tables.specs.Loading.{AnswersBook, LeavesConnection};
 ghost use Rattle.rtgs_rows.specs.RowLaws.{RowsTellTheBook, TablesOfABookAreWhole, TablesOfABookAreWhole-prop};
 
-use crate::stopping::fault_of;
+use crate::faults::fault_of;
 use rtgs_book::{Book, Change, Fault, Mark, Order, Posting};
 use rtgs_cores::Core;
 use rtgs_cores::laws::records_are_listed;
@@ -120,7 +120,6 @@ impl<S: Alter + Drop> SqlKeeper<S> {
         loaded
     }
 
-    /// The connection.
     pub fn into_connection(self) -> Connection<S>
         ensures { result ≡ self.conn }
     {
@@ -275,6 +274,7 @@ fn leaves_no_tables<S: Alter>(conn: &Connection<S>)
     ensures { IsBlank (state S.Store conn.now) → (trees : Trees) → (state S.Store conn.now).may_leave trees
         → HasNoTables trees }
 {
+    // Called for its contract alone: it states that the engine's list of tables is true.
     conn.schema();
 }
 

@@ -1,5 +1,5 @@
 //! Orders of a batch, in words.
-use crate::scripts::{command, is_told_by_itself};
+use crate::scripts::{command, is_expected_by_itself};
 use rtgs_batches::submit_batch;
 use rtgs_book::{Answer, Command, Known, Refusal};
 use rtgs_desk::Desk;
@@ -65,7 +65,7 @@ fn replied(alloc: Global, replies: &[RowReply], script: &str, known: usize) -> R
             }
             RowReply::Refused(refusal) => Err(refusal),
         };
-        if !is_told_by_itself(alloc, &own, line, count < known)? {
+        if !is_expected_by_itself(alloc, &own, line, count < known)? {
             return Err(Fail::new("another row reply"));
         }
         count = count.saturating_add(1);

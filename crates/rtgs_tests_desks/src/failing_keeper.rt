@@ -1,4 +1,4 @@
-//! A keeper that fails when it is told to.
+//! A keeper that fails when a test wants it.
 ghost use Rattle.std.specs.Prelude.{◌≡◌, ◌⊎◌};
 
 use rtgs_book::{Change, Fault, Mark, Order, Posting};
@@ -117,12 +117,12 @@ impl<K: Keeper> Keeper for FailingKeeper<K> {
         if self.failed {
             return Err(Fault::StoreFault);
         }
-        let told = match self.trouble() {
+        let answer = match self.trouble() {
             None => self.kept.core(alloc),
             Some(trouble) => Err(trouble.fault()),
         };
-        self.failed = matches!(told, Err(Fault::StoreFault));
-        told
+        self.failed = matches!(answer, Err(Fault::StoreFault));
+        answer
     }
 
     fn find_order(&mut self, sender: &Code, reference: &Reference) -> Result<Option<Order>, Fault> {

@@ -16,6 +16,6 @@ pub use crate::failing_keeper::{FailingKeeper, Trouble, failing};
 pub use crate::opened::{BANKS, begun, desk_over};
 pub use crate::readings::seen_of;
 pub use crate::scripts::{
-    Reply, answered, command, commands, follows, is_told, is_told_by_itself, reply_text,
+    Reply, answered, command, commands, follows, is_expected, is_expected_by_itself, reply_text,
 };
 pub use crate::silence::is_silent;

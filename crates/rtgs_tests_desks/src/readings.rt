@@ -6,7 +6,6 @@ use rtgs_statements::{write_report, write_statement};
 use std::alloc::Global;
 use std::test::Fail;
 
-// The day report.
 fn report_of<K: Keeper>(
     alloc: Global,
     desk: &mut Desk<K>,
@@ -19,7 +18,6 @@ fn report_of<K: Keeper>(
     }
 }
 
-// A bank's statement.
 fn statement_of<K: Keeper>(
     alloc: Global,
     desk: &mut Desk<K>,

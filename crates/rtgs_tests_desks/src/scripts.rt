@@ -124,27 +124,32 @@ pub fn commands(alloc: Global, script: &str) -> Result<Vec<Command>, Fail> {
     Ok(commands)
 }
 
-// What a line tells behind its command, or behind that where it comes again.
-fn told(line: &str, comes_again: bool) -> Option<&str> {
+// The reply that a line expects behind its command, or behind that where it comes again.
+fn expected(line: &str, comes_again: bool) -> Option<&str> {
     line.split(" => ").nth(if comes_again { 2 } else { 1 })
 }
 
 /// Whether a reply is the one that the line tells behind its command, or behind that where it comes again.
-pub fn is_told(alloc: Global, reply: &Reply, line: &str, comes_again: bool) -> Result<bool, Fail> {
+pub fn is_expected(
+    alloc: Global,
+    reply: &Reply,
+    line: &str,
+    comes_again: bool,
+) -> Result<bool, Fail> {
     let text = reply_text(alloc, reply)?;
-    Ok(told(line, comes_again) == Some(text.as_str()))
+    Ok(expected(line, comes_again) == Some(text.as_str()))
 }
 
 /// The same of a command's own reply alone, whatever was resolved after the command.
-pub fn is_told_by_itself(
+pub fn is_expected_by_itself(
     alloc: Global,
     own: &Result<Answer, Refusal>,
     line: &str,
     comes_again: bool,
 ) -> Result<bool, Fail> {
     let text = format!(in alloc; "{own:?}")?;
-    match told(line, comes_again) {
-        Some(told) => Ok(told.split(" auto ").next() == Some(text.as_str())),
+    match expected(line, comes_again) {
+        Some(expected) => Ok(expected.split(" auto ").next() == Some(text.as_str())),
         None => Ok(false),
     }
 }
@@ -200,7 +205,7 @@ fn is_answered<K: Keeper>(
     let reply = desk.submit(command(line)?);
     let has_failed = matches!(reply, Err(Refusal::StoreFault | Refusal::Failed));
     if has_failed == desk.failed() {
-        if is_told(alloc, &reply, line, comes_again)? {
+        if is_expected(alloc, &reply, line, comes_again)? {
             return Ok(true);
         }
         if reply == Err(Refusal::StoreFault) {

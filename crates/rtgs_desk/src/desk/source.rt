@@ -1,6 +1,6 @@
 //! What texts are read from: the desk gives the participants' codes, and the records of a date one after another.
 use super::Desk;
-use super::looking_up::refused;
+use super::look_ups::refused;
 use rtgs_book::{Mark, Order, Posting, Refusal};
 use rtgs_keeper::Keeper;
 use rtgs_money::{BusinessDate, Code};

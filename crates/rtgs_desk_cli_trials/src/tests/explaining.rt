@@ -30,7 +30,7 @@ fn a_refusal_is_explained_by_its_number(rt: HostRuntime) -> Result<(), Fail> {
 }
 
 #[test]
-fn numbers_of_no_refusal_are_told_on_standard_error(rt: HostRuntime) -> Result<(), Fail> {
+fn numbers_of_no_refusal_are_reported_on_standard_error(rt: HostRuntime) -> Result<(), Fail> {
     follows_each(
         &rt,
         "unexplained",
@@ -45,8 +45,8 @@ fn first_words(line: &str) -> Option<(u8, &str)> {
     Some((number.parse::<u8>().ok()?, name))
 }
 
-/// How many refusals are told, where their numbers and names are those of all kinds, in their order.
-fn count_told(text: &str) -> Result<usize, Fail> {
+/// How many refusals are explained, where their numbers and names are those of all kinds, in their order.
+fn count_explained(text: &str) -> Result<usize, Fail> {
     let mut count = 0;
     for line in text.split('\n') {
         let Some((number, name)) = first_words(line) else {
@@ -64,7 +64,7 @@ fn count_told(text: &str) -> Result<usize, Fail> {
 #[test]
 fn each_refusal_is_explained_once(rt: HostRuntime) -> Result<(), Fail> {
     let run = run(&rt, &["explain"], usize::MAX, usize::MAX);
-    let count = count_told(std::str::from_utf8(run.out.bytes())?)?;
+    let count = count_explained(std::str::from_utf8(run.out.bytes())?)?;
     if count == KINDS.len() && run.status == 0 && run.err.bytes().is_empty() {
         return Ok(());
     }

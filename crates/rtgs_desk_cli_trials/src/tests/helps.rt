@@ -124,7 +124,7 @@ fn version_names_the_program_its_tables_and_the_kit(rt: HostRuntime) -> Result<(
     follows(&rt, "version", VERSIONS)
 }
 
-/// The words are no command line, which is told on standard error alone.
+/// The words are no command line, which is reported on standard error alone.
 pub const MISUSED: &str = "
 $ ends %1
 !
@@ -132,7 +132,9 @@ status 2 misused
 ";
 
 #[test]
-fn words_that_are_no_command_line_are_told_on_standard_error(rt: HostRuntime) -> Result<(), Fail> {
+fn words_that_are_no_command_line_are_reported_on_standard_error(
+    rt: HostRuntime,
+) -> Result<(), Fail> {
     follows_each(&rt, "misused", MISUSED, "\ninit\npay F\ninit F G")
 }
 

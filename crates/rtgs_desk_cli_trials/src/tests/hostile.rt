@@ -1,4 +1,4 @@
-//! What is told of hostile requests and files, and that nothing is changed where they are refused.
+//! What is answered to hostile requests and files, and that nothing is changed where they are refused.
 mod bytes;
 mod draw;
 pub mod files;

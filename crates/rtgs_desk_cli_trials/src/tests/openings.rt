@@ -68,7 +68,7 @@ fn follows_while_held<S: Start>(
                 failed => failed,
             };
             let is_copied = closed.is_copied();
-            drop(closed.let_go());
+            drop(closed.release());
             followed?;
             if is_copied {
                 return Ok(());

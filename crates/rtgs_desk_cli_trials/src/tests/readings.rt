@@ -3,7 +3,7 @@ use super::imports::DAY;
 use super::script::{follows, follows_both};
 use std::test::Fail;
 
-const TOLD: &str = "
+const READINGS: &str = "
 $ orders told.csv A-1,BETA,100 A-2,GAMA,60
 $ desk import @ ALFA told.csv
 > reference,result,number,detail
@@ -41,8 +41,8 @@ status 1
 ";
 
 #[test]
-fn accounts_queues_and_orders_are_told_as_json(rt: HostRuntime) -> Result<(), Fail> {
-    follows_both(&rt, "told", DAY, TOLD)
+fn accounts_queues_and_orders_are_shown_as_json(rt: HostRuntime) -> Result<(), Fail> {
+    follows_both(&rt, "told", DAY, READINGS)
 }
 
 /// The accounts of a new book: nobody's, and then those of two participants before the first day.

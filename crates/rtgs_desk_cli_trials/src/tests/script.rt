@@ -9,8 +9,8 @@
 //! - `$ out N WORDS` is the same where standard output takes only N bytes, and `$ err N WORDS` where standard error
 //!   does.
 //! - `$ names WORDS` is a run whose standard output has each text after `> ` in it, and each after `= ` as a line.
-//! - `$ writes WORDS` is one of which only is told in how many writes it printed its lines.
-//! - `$ ends WORDS` is one of which only is told on which streams it printed, by `>` and `!`, and how it ended.
+//! - `$ writes WORDS` is one of which only is shown in how many writes it printed its lines.
+//! - `$ ends WORDS` is one of which only is shown on which streams it printed, by `>` and `!`, and how it ended.
 //! - `$ file PATH TEXT` writes a file; `\n` in the text is a line's end.
 //! - `$ orders PATH ROWS` writes a file of orders: their header, and a line for each of these rows.
 //! - `$ sql PATH STATEMENT` changes a book's file by SQL, as another program does; `$ log PATH STATEMENT` leaves the
@@ -79,21 +79,21 @@ fn has_line(text: &str, wanted: &str) -> bool {
     false
 }
 
-/// Whether what was printed has what is told by a line: a line after `= `, or a part of one after `> `.
-fn has_told(printed: &str, told: &str) -> bool {
-    if let Some(line) = told.strip_prefix("= ") {
+/// Whether what was printed has what a line expects: a line after `= `, or a part of one after `> `.
+fn has_expected(printed: &str, expected: &str) -> bool {
+    if let Some(line) = expected.strip_prefix("= ") {
         return has_line(printed, line);
     }
-    match told.strip_prefix("> ") {
+    match expected.strip_prefix("> ") {
         Some(part) => printed.contains(part.strip_suffix('\n').unwrap_or(part)),
         None => false,
     }
 }
 
-/// Adds those lines of what is told that was printed.
-fn add_told(shown: &mut String, told: &str, printed: &str) -> Result<(), AllocError> {
-    for line in told.split_inclusive('\n') {
-        if has_told(printed, line) {
+/// Adds those lines of what is expected that were printed.
+fn add_expected(shown: &mut String, expected: &str, printed: &str) -> Result<(), AllocError> {
+    for line in expected.split_inclusive('\n') {
+        if has_expected(printed, line) {
             shown.push_str(line)?;
         }
     }
@@ -101,10 +101,10 @@ fn add_told(shown: &mut String, told: &str, printed: &str) -> Result<(), AllocEr
 }
 
 /// Adds what a step of this kind shows of a run's standard output.
-fn add_out(shown: &mut String, kind: &str, told: &str, run: &Outcome) -> Result<(), Fail> {
+fn add_out(shown: &mut String, kind: &str, expected: &str, run: &Outcome) -> Result<(), Fail> {
     let printed = std::str::from_utf8(run.out.bytes())?;
     if kind == "names" {
-        return Ok(add_told(shown, told, printed)?);
+        return Ok(add_expected(shown, expected, printed)?);
     }
     if kind == "writes" && printed.ends_with('\n') {
         return Ok(writeln!(shown, "{} writes", run.out.writes())?);
@@ -135,9 +135,9 @@ fn add_end(shown: &mut String, status: u8, end: &str) -> Result<(), Fail> {
 }
 
 /// What a step of this kind shows of a run.
-pub fn shown_of(alloc: Global, kind: &str, told: &str, run: &Outcome) -> Result<String, Fail> {
+pub fn shown_of(alloc: Global, kind: &str, expected: &str, run: &Outcome) -> Result<String, Fail> {
     let mut shown = String::new(alloc);
-    add_out(&mut shown, kind, told, run)?;
+    add_out(&mut shown, kind, expected, run)?;
     add_err(&mut shown, kind, run)?;
     add_end(&mut shown, run.status, run.end)?;
     Ok(shown)
@@ -149,24 +149,29 @@ fn shown_by_run(
     rt: &HostRuntime,
     kind: &str,
     line: &str,
-    told: &str,
+    expected: &str,
     (out_room, err_room): (usize, usize),
 ) -> Result<String, Fail> {
     let mut words = Vec::new(rt.alloc());
     read_words(&mut words, line)?;
     let run = run(rt, words.as_slice(), out_room, err_room);
-    shown_of(rt.alloc(), kind, told, &run)
+    shown_of(rt.alloc(), kind, expected, &run)
 }
 
 /// The same, where one stream takes only as many bytes as stand before the words.
-fn shown_in_room(rt: &HostRuntime, kind: &str, words: &str, told: &str) -> Result<String, Fail> {
+fn shown_in_room(
+    rt: &HostRuntime,
+    kind: &str,
+    words: &str,
+    expected: &str,
+) -> Result<String, Fail> {
     let (room, line) = words.split_once(' ').unwrap_or((words, ""));
     let room = room.parse::<usize>()?;
     let rooms = match kind {
         "out" => (room, usize::MAX),
         _ => (usize::MAX, room),
     };
-    shown_by_run(rt, kind, line, told, rooms)
+    shown_by_run(rt, kind, line, expected, rooms)
 }
 
 /// The text of a file, as a step gives it.
@@ -237,13 +242,13 @@ fn prepare(rt: &HostRuntime, kind: &str, path: &str, text: &str) -> Result<(), F
 }
 
 /// What a step shows.
-fn shown_by(rt: &HostRuntime, line: &str, told: &str) -> Result<String, Fail> {
+fn shown_by(rt: &HostRuntime, line: &str, expected: &str) -> Result<String, Fail> {
     let (kind, words) = line.split_once(' ').unwrap_or((line, ""));
     if kind == "out" || kind == "err" {
-        return shown_in_room(rt, kind, words, told);
+        return shown_in_room(rt, kind, words, expected);
     }
     if kind == "desk" || kind == "names" || kind == "writes" || kind == "ends" {
-        return shown_by_run(rt, kind, words, told, (usize::MAX, usize::MAX));
+        return shown_by_run(rt, kind, words, expected, (usize::MAX, usize::MAX));
     }
     let (path, text) = words.split_once(' ').unwrap_or((words, ""));
     prepare(rt, kind, path, text)?;
@@ -252,12 +257,12 @@ fn shown_by(rt: &HostRuntime, line: &str, told: &str) -> Result<String, Fail> {
 
 /// Follows one step: its line, and below that what it shows.
 fn follow(rt: &HostRuntime, step: &str) -> Result<(), Fail> {
-    let (line, told) = step.split_once('\n').unwrap_or((step, "a line's end"));
-    let shown = shown_by(rt, line, told)?;
-    if shown.as_str() == told {
+    let (line, expected) = step.split_once('\n').unwrap_or((step, "a line's end"));
+    let shown = shown_by(rt, line, expected)?;
+    if shown.as_str() == expected {
         return Ok(());
     }
-    Err(Fail::new(format_args!("{line} printed {shown:?} and not {told:?}")))
+    Err(Fail::new(format_args!("{line} printed {shown:?} and not {expected:?}")))
 }
 
 /// Follows the steps of a script.

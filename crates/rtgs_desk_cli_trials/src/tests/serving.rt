@@ -16,7 +16,7 @@ const PORT: &str = "DESK_PORT";
 const OPERATOR: &str = "000000000000000000000000000000ff";
 
 /// Requests and their replies: an order that comes twice settles once, the operator's resolution finds nothing, and one
-/// that bears a bank's key is refused. Each line but the last of one ends as lines of HTTP do.
+/// that carries a bank's key is refused. Each line but the last of one ends as lines of HTTP do.
 const EXCHANGES: &str = r#"POST /orders HTTP/1.1
 desk-key: 0000000000000000000000000000000a
 Content-Length: 44
@@ -79,7 +79,7 @@ fn serves(rt: &HostRuntime, port: &str) -> Result<(), Fail> {
     if ended.exit_status() == 0 && err.is_empty() {
         return Ok(());
     }
-    Err(Fail::from("another status, or a fault was told"))
+    Err(Fail::from("another status, or a fault was reported"))
 }
 
 #[test]
@@ -96,7 +96,6 @@ fn free_port(rt: &HostRuntime) -> Result<u16, Fail> {
     Ok(listener.local_addr()?.port())
 }
 
-/// Starts the server.
 fn start(rt: &HostRuntime, port: u16) -> Result<Child, Fail> {
     let port = format!(in rt.alloc(); "{port}")?;
     let mut program = Command::new(rt.alloc(), env::current_exe(rt)?)?;

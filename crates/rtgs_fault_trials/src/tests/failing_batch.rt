@@ -41,14 +41,14 @@ const SENT_AGAIN: &str =
     "reference,result,number,detail\nA-1,repeated,1,settled\nA-2,repeated,2,settled\nA-3,queued,3,1\n";
 
 // Sends the rows to the desk in a batch as often as there are result files of them, and fails where one is another.
-fn sent_to<K: Keeper + Drop>(alloc: Global, desk: Desk<K>, told: &[&str]) -> Result<K, Fail> {
+fn sent_to<K: Keeper + Drop>(alloc: Global, desk: Desk<K>, expected: &[&str]) -> Result<K, Fail> {
     let mut desk = desk;
     let rows = orders(alloc, ROWS, usize::MAX)?;
-    for told in told {
+    for expected in expected {
         let batch = submit_batch(alloc, &mut desk, Code::read(b"ALFA")?, rows.as_slice())?;
         let mut text = Vec::new(alloc);
         write_results(alloc, &mut text, rows.as_slice(), &batch)?;
-        if text.as_slice() != told.as_bytes() {
+        if text.as_slice() != expected.as_bytes() {
             return Err(Fail::new("another result file"));
         }
     }
@@ -59,10 +59,10 @@ fn sent_to<K: Keeper + Drop>(alloc: Global, desk: Desk<K>, told: &[&str]) -> Res
 fn stop_once<K: Keeper + Drop>(
     alloc: Global,
     keeper: FailingKeeper<K>,
-    told: &[&str],
+    expected: &[&str],
     again: &[&str],
 ) -> Result<(), Fail> {
-    let kept = sent_to(alloc, begun(alloc, keeper, BEFORE)?, told)?;
+    let kept = sent_to(alloc, begun(alloc, keeper, BEFORE)?, expected)?;
     let keeper = kept.restarted(usize::MAX, Trouble::Lost);
     sent_to(alloc, desk_over(alloc, keeper)?, again)?;
     Ok(())
@@ -70,9 +70,9 @@ fn stop_once<K: Keeper + Drop>(
 
 // Fails unless these result files come of the rows, where the store fails at each of these calls. It may be asked for
 // one more result file, after a restart.
-fn stop(alloc: Global, calls: [usize; 2], told: &[&str], again: &[&str]) -> Result<(), Fail> {
+fn stop(alloc: Global, calls: [usize; 2], expected: &[&str], again: &[&str]) -> Result<(), Fail> {
     for calls in calls {
-        stop_once(alloc, failing(alloc, calls, Trouble::Lost), told, again)?;
+        stop_once(alloc, failing(alloc, calls, Trouble::Lost), expected, again)?;
     }
     Ok(())
 }

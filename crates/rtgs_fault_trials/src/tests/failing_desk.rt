@@ -3,7 +3,7 @@ use rtgs_book::Fault;
 use rtgs_desk::Desk;
 use rtgs_keeper::Keeper;
 use rtgs_tests_desks::{
-    FailingKeeper, Reply, Trouble, commands, desk_over, failing, follows, is_told,
+    FailingKeeper, Reply, Trouble, commands, desk_over, failing, follows, is_expected,
 };
 use std::alloc::Global;
 use std::test::Fail;
@@ -23,16 +23,16 @@ add ALFA 0000000000000000000000000000000a => Err(Failed)";
 fn answers_a_list<K: Keeper + Drop>(alloc: Global, keeper: K, script: &str) -> Result<(), Fail> {
     let commands = commands(alloc, script)?;
     let replies = desk_over(alloc, keeper)?.run(commands.as_slice())?;
-    are_told(alloc, replies.as_slice(), script)
+    are_expected(alloc, replies.as_slice(), script)
 }
 
 // Fails unless the replies are those that the script tells.
-fn are_told(alloc: Global, replies: &[Reply], script: &str) -> Result<(), Fail> {
-    let mut are_told = replies.len() == script.lines().count();
+fn are_expected(alloc: Global, replies: &[Reply], script: &str) -> Result<(), Fail> {
+    let mut are_expected = replies.len() == script.lines().count();
     for (line, reply) in script.lines().zip(replies) {
-        are_told = is_told(alloc, reply, line, false)? && are_told;
+        are_expected = is_expected(alloc, reply, line, false)? && are_expected;
     }
-    if are_told {
+    if are_expected {
         Ok(())
     } else {
         Err(Fail::new("other replies"))
@@ -100,12 +100,12 @@ fn a_command_that_lacked_memory_is_sent_again(rt: HostRuntime) -> Result<(), Fai
 }
 
 // Fails unless no desk is opened over this keeper, for this fault.
-fn opens_none<K: Keeper + Drop>(alloc: Global, keeper: K, told: Fault) -> Result<(), Fail> {
+fn opens_none<K: Keeper + Drop>(alloc: Global, keeper: K, expected: Fault) -> Result<(), Fail> {
     let met = match Desk::open(alloc, keeper) {
         Ok(_) => None,
         Err((fault, _)) => Some(fault),
     };
-    if met == Some(told) {
+    if met == Some(expected) {
         Ok(())
     } else {
         Err(Fail::new("another fault, or a desk"))
@@ -117,9 +117,9 @@ fn opens_none_after<K: Keeper + Drop>(
     alloc: Global,
     keeper: K,
     script: &str,
-    told: Fault,
+    expected: Fault,
 ) -> Result<(), Fail> {
-    opens_none(alloc, after(alloc, keeper, script)?, told)
+    opens_none(alloc, after(alloc, keeper, script)?, expected)
 }
 
 #[test]

@@ -23,7 +23,7 @@ order ALFA A-1 BETA 60 => Ok(Settled { number: 1, mark: 1 })
 order ALFA A-2 GAMA 9000 => Ok(Queued { number: 2, place: 1 })
 order BETA B-1 ALFA 500 => Ok(Queued { number: 3, place: 1 })";
 
-/// Writes what is to be told of Monday, which is the statement of this bank, or the day report where none is named. It
+/// Writes the text of Monday, which is the statement of this bank, or the day report where none is named. It
 /// tells why a read was refused, where one was.
 fn write<K: Keeper>(
     alloc: Global,
@@ -129,10 +129,10 @@ fn reads_of(alloc: Global, bank: Option<&str>, trouble: Trouble) -> Result<usize
 }
 
 /// Fails unless so many reads go well where first no writing meets a trouble, whichever it is.
-fn reads_are(alloc: Global, bank: Option<&str>, told: usize) -> Result<(), Fail> {
+fn reads_are(alloc: Global, bank: Option<&str>, expected: usize) -> Result<(), Fail> {
     for trouble in [Trouble::Lost, Trouble::Kept, Trouble::OutOfMemory] {
         let reads = reads_of(alloc, bank, trouble)?;
-        if reads != told {
+        if reads != expected {
             return Err(Fail::from(format!(in alloc; "{reads} reads at {trouble:?}")?));
         }
     }
@@ -152,7 +152,7 @@ fn a_report_is_begun_where_a_read_is_refused(rt: HostRuntime) -> Result<(), Fail
 }
 
 #[test]
-fn two_postings_are_told_where_the_third_is_not_read(rt: HostRuntime) -> Result<(), Fail> {
+fn two_postings_are_written_where_the_third_is_not_read(rt: HostRuntime) -> Result<(), Fail> {
     let written = written_after(rt.alloc(), Some("ALFA"), 2, Trouble::Lost)?;
     if written.refused == Some(Refusal::StoreFault)
         && written.out.as_slice() == BEGINNING.as_bytes()

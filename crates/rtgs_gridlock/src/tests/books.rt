@@ -6,15 +6,15 @@ use std::alloc::{AllocError, Global};
 
 /// The arguments of a resolution.
 #[derive(Debug, Drop)]
-pub struct Book {
+pub struct ResolverInput {
     pub positions: Positions,
     pub queues: Queues,
 }
 
-impl Book {
+impl ResolverInput {
     /// A book without participants.
-    pub fn new(alloc: Global) -> Book {
-        Book {
+    pub fn new(alloc: Global) -> ResolverInput {
+        ResolverInput {
             positions: Positions::new(alloc),
             queues: Queues::new(alloc),
         }
@@ -48,9 +48,9 @@ impl Digits {
 pub const SMALL_BOOKS: usize = 42 * 42 * 42;
 
 /// A small book by its number.
-pub fn small(alloc: Global, number: usize) -> Result<Book, OutOfMemory> {
+pub fn small(alloc: Global, number: usize) -> Result<ResolverInput, OutOfMemory> {
     let mut digits = Digits { rest: number };
-    let mut book = Book::new(alloc);
+    let mut book = ResolverInput::new(alloc);
     for sender in 0..3usize {
         let balance = digits.next(2) as i64;
         let queue = small_queue(alloc, sender, digits.next(21))?;
@@ -91,8 +91,8 @@ fn cents_to(alloc: Global, receiver: usize, count: usize) -> Result<Vec<Payment>
 }
 
 /// A ring without money: each participant pays the next one, and the last the first.
-pub fn ring(alloc: Global, participants: usize, each: usize) -> Result<Book, OutOfMemory> {
-    let mut book = Book::new(alloc);
+pub fn ring(alloc: Global, participants: usize, each: usize) -> Result<ResolverInput, OutOfMemory> {
+    let mut book = ResolverInput::new(alloc);
     for index in 0..participants {
         let next = (index + 1) % participants;
         let position = Position {
@@ -110,8 +110,8 @@ pub fn chain(
     participants: usize,
     each: usize,
     money: i64,
-) -> Result<Book, OutOfMemory> {
-    let mut book = Book::new(alloc);
+) -> Result<ResolverInput, OutOfMemory> {
+    let mut book = ResolverInput::new(alloc);
     for index in 0..participants {
         let balance = if index + 1 == participants { money } else { 0 };
         let position = Position { balance, floor: 0 };
@@ -132,8 +132,8 @@ pub fn mixed(
     each: usize,
     stride: usize,
     credit: u32,
-) -> Result<Book, OutOfMemory> {
-    let mut book = Book::new(alloc);
+) -> Result<ResolverInput, OutOfMemory> {
+    let mut book = ResolverInput::new(alloc);
     for sender in 0..participants {
         let mut queue = Vec::new(alloc);
         for place in 0..each {

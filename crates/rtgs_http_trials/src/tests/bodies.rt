@@ -1,5 +1,5 @@
 //! Lengths of bodies, and what their bytes spell.
-use super::faults::{alfas_desk, is_told, tells_faults};
+use super::faults::{alfas_desk, is_answered, tells_faults};
 use std::alloc::{AllocError, Global};
 use std::test::Fail;
 
@@ -194,8 +194,8 @@ fn values_nest_127_levels_at_most(rt: HostRuntime) -> Result<(), Fail> {
     let most = nested(rt.alloc(), 127)?;
     let more = nested(rt.alloc(), 128)?;
     let desk = alfas_desk(rt.alloc())?;
-    is_told(rt.alloc(), &desk, most.as_str(), "400 66 WrongFields")?;
-    is_told(rt.alloc(), &desk, more.as_str(), "400 65 BadJson")
+    is_answered(rt.alloc(), &desk, most.as_str(), "400 66 WrongFields")?;
+    is_answered(rt.alloc(), &desk, more.as_str(), "400 65 BadJson")
 }
 
 // An order whose reference is a byte that no text has.
@@ -207,7 +207,7 @@ const NO_TEXT: &[u8] =
 fn a_body_that_is_no_text(rt: HostRuntime) -> Result<(), Fail> {
     let desk = alfas_desk(rt.alloc())?;
     let mut input = NO_TEXT;
-    let told = desk.asks(&mut input)?;
-    assert_eq!(rt; told.as_str(), "400 65 BadJson");
+    let fault = desk.asks(&mut input)?;
+    assert_eq!(rt; fault.as_str(), "400 65 BadJson");
     Ok(())
 }

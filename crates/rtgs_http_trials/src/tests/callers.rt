@@ -74,6 +74,6 @@ OPERATOR GET /orders/a-1
 "#;
 
 #[test]
-fn the_first_fault_is_told(rt: HostRuntime) -> Result<(), Fail> {
+fn the_first_fault_is_answered(rt: HostRuntime) -> Result<(), Fail> {
     tells_faults(rt.alloc(), FIRST_FAULTS)
 }

@@ -1,6 +1,6 @@
-//! What inputs ask for, or the faults that they are told of.
+//! What inputs ask for, or the faults that they are answered.
 use super::ALFA;
-use super::requests::{Request, spelled};
+use super::requests::{WrittenRequest, spelled};
 use super::test_desk::TestDesk;
 use rtgs_tests_desks::Trouble;
 use std::alloc::Global;
@@ -18,17 +18,22 @@ fn input_of(alloc: Global, asked: &str) -> Result<String, Fail> {
     if let Some(text) = asked.strip_prefix("RAW ") {
         return Ok(spelled(alloc, text)?);
     }
-    Request::read(asked)?.short_input(alloc)
+    WrittenRequest::read(asked)?.short_input(alloc)
 }
 
 /// The request asks for this, in words, or has a fault of this status, number and name.
-pub fn is_told(alloc: Global, desk: &TestDesk, asked: &str, told: &str) -> Result<(), Fail> {
+pub fn is_answered(
+    alloc: Global,
+    desk: &TestDesk,
+    asked: &str,
+    expected: &str,
+) -> Result<(), Fail> {
     let input = input_of(alloc, asked)?;
     let said = desk.asks(&mut input.as_bytes())?;
-    if said.as_str() == told {
+    if said.as_str() == expected {
         return Ok(());
     }
-    let said = format!(in alloc; "{asked}: {said}, not {told}")?;
+    let said = format!(in alloc; "{asked}: {said}, not {expected}")?;
     Err(Fail::from(said))
 }
 
@@ -36,8 +41,8 @@ pub fn is_told(alloc: Global, desk: &TestDesk, asked: &str, told: &str) -> Resul
 pub fn tells_faults(alloc: Global, script: &str) -> Result<(), Fail> {
     let desk = alfas_desk(alloc)?;
     for step in script.trim().split("\n\n") {
-        let (asked, told) = step.split_once("\n-> ").ok_or("a step without an answer")?;
-        is_told(alloc, &desk, asked, told)?;
+        let (asked, expected) = step.split_once("\n-> ").ok_or("a step without an answer")?;
+        is_answered(alloc, &desk, asked, expected)?;
     }
     Ok(())
 }

@@ -5,23 +5,23 @@ use std::test::Fail;
 
 const ACCOUNT: &str = "read account ALFA";
 
-// The input is told this by ALFA's desk.
-fn is_told(alloc: Global, input: &str, told: &str) -> Result<(), Fail> {
+// The input is answered this by ALFA's desk.
+fn is_answered(alloc: Global, input: &str, expected: &str) -> Result<(), Fail> {
     let said = alfas_desk(alloc)?.asks(&mut input.as_bytes())?;
-    if said.as_str() == told {
+    if said.as_str() == expected {
         return Ok(());
     }
     let length = input.len();
-    Err(Fail::from(format!(in alloc; "{length} bytes are told {said}, not {told}")?))
+    Err(Fail::from(format!(in alloc; "{length} bytes are answered {said}, not {expected}")?))
 }
 
 #[test]
 fn regions_that_do_not_end(rt: HostRuntime) -> Result<(), Fail> {
     let most = "A".repeat(rt.alloc(), 8191)?;
     let more = "A".repeat(rt.alloc(), 8192)?;
-    is_told(rt.alloc(), "", "400 64 Truncated")?;
-    is_told(rt.alloc(), most.as_str(), "400 64 Truncated")?;
-    is_told(rt.alloc(), more.as_str(), "413 61 HeadTooLong")
+    is_answered(rt.alloc(), "", "400 64 Truncated")?;
+    is_answered(rt.alloc(), most.as_str(), "400 64 Truncated")?;
+    is_answered(rt.alloc(), more.as_str(), "413 61 HeadTooLong")
 }
 
 const NOT_SERVED: &str = r#"
@@ -139,9 +139,9 @@ fn with_fields(alloc: Global, count: usize) -> Result<String, AllocError> {
 #[test]
 fn a_head_has_32_fields_at_most(rt: HostRuntime) -> Result<(), Fail> {
     let most = with_fields(rt.alloc(), 31)?;
-    is_told(rt.alloc(), most.as_str(), ACCOUNT)?;
+    is_answered(rt.alloc(), most.as_str(), ACCOUNT)?;
     let more = with_fields(rt.alloc(), 32)?;
-    is_told(rt.alloc(), more.as_str(), "400 60 BadHead")
+    is_answered(rt.alloc(), more.as_str(), "400 60 BadHead")
 }
 
 // The same, with one more field whose value has so many bytes.
@@ -166,9 +166,9 @@ fn of_length(alloc: Global, length: usize) -> Result<String, Fail> {
 #[test]
 fn a_head_has_8192_bytes_at_most(rt: HostRuntime) -> Result<(), Fail> {
     let most = of_length(rt.alloc(), 8192)?;
-    is_told(rt.alloc(), most.as_str(), ACCOUNT)?;
+    is_answered(rt.alloc(), most.as_str(), ACCOUNT)?;
     let more = of_length(rt.alloc(), 8193)?;
-    is_told(rt.alloc(), more.as_str(), "413 61 HeadTooLong")?;
+    is_answered(rt.alloc(), more.as_str(), "413 61 HeadTooLong")?;
     let line_of_8192 = with_long_field(rt.alloc(), 8189)?;
-    is_told(rt.alloc(), line_of_8192.as_str(), "413 61 HeadTooLong")
+    is_answered(rt.alloc(), line_of_8192.as_str(), "413 61 HeadTooLong")
 }

@@ -3,7 +3,6 @@ use rtgs_http_feeds::{BodyFeed, BodyStep, HeadFeed, HeadStep};
 use std::alloc::Global;
 use std::test::Fail;
 
-// The good request.
 const GOOD: &[u8] =
     b"POST /orders HTTP/1.1\r\ndesk-key: 0000000000000000000000000000000a\r\nContent-Length: 44\r\n\r\n\
       {\"amount\":100,\"reference\":\"A-1\",\"to\":\"BETA\"}";

@@ -21,7 +21,7 @@ pub const OTHER: &str = "0000000000000000000000000000000e";
 /// A line of a caller, a method, a target and, where there is one, a body: `ALFA POST /orders {}`. Or such a line
 /// without a body, and behind it the lines of a file, each of which ends.
 #[derive(Clone, Copy)]
-pub struct Request<'a> {
+pub struct WrittenRequest<'a> {
     pub caller: &'a str,
     pub method: &'a str,
     pub target: &'a str,
@@ -30,9 +30,9 @@ pub struct Request<'a> {
     end: &'static str,
 }
 
-impl<'a> Request<'a> {
+impl<'a> WrittenRequest<'a> {
     /// The request that the text says.
-    pub fn read(text: &'a str) -> Result<Request<'a>, Fail> {
+    pub fn read(text: &'a str) -> Result<WrittenRequest<'a>, Fail> {
         let (line, file) = text.split_once("\n").unwrap_or((text, ""));
         let (caller, rest) = line.split_once(" ").ok_or("a request without a caller")?;
         let (method, rest) = rest.split_once(" ").ok_or("a request without a target")?;
@@ -45,7 +45,7 @@ impl<'a> Request<'a> {
         } else {
             (file, "\n")
         };
-        Ok(Request {
+        Ok(WrittenRequest {
             caller,
             method,
             target,

@@ -1,5 +1,5 @@
 //! A desk in memory that scripts ask.
-use super::requests::{BETA, GAMA, Request, spelled};
+use super::requests::{BETA, GAMA, WrittenRequest, spelled};
 use super::words::in_words;
 use super::{ALFA, OPERATOR, digest};
 use rtgs_book::Command;
@@ -25,7 +25,6 @@ pub struct TestDesk {
     pub operator: KeyDigest,
 }
 
-// Adds a bank.
 fn add<K: Keeper>(desk: &mut Desk<K>, code: &str, name: &str, key: &str) -> Result<(), Fail> {
     desk.submit(Command::Add {
         code: Code::read(code.as_bytes())?,
@@ -60,13 +59,13 @@ pub fn whole(alloc: Global, status: &str, content: &str, body: &str) -> Result<S
 
 // The reply that a script tells: the status with its reason, and then a body of JSON, of which lines are joined, or a
 // type and behind it the lines of a body, each of which ends. One whose status is RAW is spelled.
-fn reply_of(alloc: Global, told: &str) -> Result<String, Fail> {
-    if let Some(text) = told.strip_prefix("RAW ") {
+fn reply_of(alloc: Global, expected: &str) -> Result<String, Fail> {
+    if let Some(text) = expected.strip_prefix("RAW ") {
         return Ok(spelled(alloc, text)?);
     }
-    match told.split_once(" {") {
+    match expected.split_once(" {") {
         Some((status, json)) => Ok(json_reply(alloc, status, json)?),
-        None => text_reply(alloc, told),
+        None => text_reply(alloc, expected),
     }
 }
 
@@ -78,14 +77,14 @@ fn json_reply(alloc: Global, status: &str, json: &str) -> Result<String, AllocEr
 }
 
 // The reply whose status and type stand on the first line, and whose body is the lines after it.
-fn text_reply(alloc: Global, told: &str) -> Result<String, Fail> {
-    let (line, lines) = told.split_once("\n").ok_or("a reply without a body")?;
+fn text_reply(alloc: Global, expected: &str) -> Result<String, Fail> {
+    let (line, lines) = expected.split_once("\n").ok_or("a reply without a body")?;
     let (status, content) = line.rsplit_once(" ").ok_or("a reply without a type")?;
     let body = format!(in alloc; "{lines}\n")?;
     Ok(whole(alloc, status, content, body.as_str())?)
 }
 
-// The status that is told, or 0.
+// The status of the reply, or 0.
 fn status_of(served: &Served) -> u16 {
     match served {
         Served::Answered(status) => status.as_u16(),
@@ -93,7 +92,7 @@ fn status_of(served: &Served) -> u16 {
     }
 }
 
-// Whether these bytes are the reply, and the status that is told is theirs.
+// Whether these bytes are the reply, and the status of the reply is theirs.
 fn is_reply(
     alloc: Global,
     served: &Served,
@@ -122,11 +121,10 @@ fn input_of(alloc: Global, asked: &str) -> Result<String, Fail> {
     if let Some(text) = asked.strip_prefix("RAW ") {
         return Ok(spelled(alloc, text)?);
     }
-    Request::read(asked)?.input(alloc)
+    WrittenRequest::read(asked)?.input(alloc)
 }
 
 impl TestDesk {
-    // Over this keeper.
     fn over(alloc: Global, keeper: FailingKeeper<MemoryKeeper>) -> Result<TestDesk, Fail> {
         let operator = digest(OPERATOR.as_bytes())?;
         let desk = desk_over(alloc, keeper)?;
@@ -173,20 +171,18 @@ impl TestDesk {
         self.troubled_again(usize::MAX, Trouble::Lost)
     }
 
-    /// Adds a bank.
     pub fn add(&mut self, code: &str, name: &str, key: &str) -> Result<(), Fail> {
         add(&mut self.desk, code, name, key)
     }
 
-    /// Serves one request.
     pub fn serve<R: Read, W: Write>(&mut self, reader: &mut R, writer: &mut W) -> Served {
         serve_one(self.alloc, reader, writer, &mut self.desk, &self.operator)
     }
 
-    /// The input is answered by the bytes of the reply that is told here, and the status that is told is theirs.
-    pub fn tells(&mut self, input: &str, told: &str) -> Result<(), Fail> {
+    /// The input is answered by the bytes of the reply that is spelled here, and the status of the reply is theirs.
+    pub fn tells(&mut self, input: &str, expected: &str) -> Result<(), Fail> {
         let alloc = self.alloc;
-        let reply = reply_of(alloc, told)?;
+        let reply = reply_of(alloc, expected)?;
         let mut reader = input.as_bytes();
         let mut written = Vec::new(alloc);
         let served = self.serve(&mut reader, &mut written);
@@ -197,16 +193,16 @@ impl TestDesk {
         Err(Fail::from(other_reply(alloc, input, &served, bytes, reply)?))
     }
 
-    /// What is asked is told this.
-    pub fn is_told(&mut self, asked: &str, told: &str) -> Result<(), Fail> {
+    /// What is asked is answered this.
+    pub fn is_answered(&mut self, asked: &str, expected: &str) -> Result<(), Fail> {
         let input = input_of(self.alloc, asked)?;
-        self.tells(input.as_str(), told)
+        self.tells(input.as_str(), expected)
     }
 
-    /// What is asked before the arrow of a step is told what is behind it.
+    /// What is asked before the arrow of a step is answered what is behind it.
     pub fn step(&mut self, step: &str) -> Result<(), Fail> {
         match step.split_once("\n-> ") {
-            Some((asked, told)) => self.is_told(asked, told),
+            Some((asked, expected)) => self.is_answered(asked, expected),
             None => Err(Fail::from("a step without a reply")),
         }
     }
@@ -219,10 +215,10 @@ impl TestDesk {
         Ok(())
     }
 
-    /// Each of these requests, between two of which is a line without text, is told this.
-    pub fn each_is_told(&mut self, requests: &str, told: &str) -> Result<(), Fail> {
+    /// Each of these requests, between two of which is a line without text, is answered this.
+    pub fn each_is_answered(&mut self, requests: &str, expected: &str) -> Result<(), Fail> {
         for asked in requests.trim().split("\n\n") {
-            self.is_told(asked, told)?;
+            self.is_answered(asked, expected)?;
         }
         Ok(())
     }

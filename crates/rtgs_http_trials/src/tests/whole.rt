@@ -9,10 +9,10 @@ use std::test::Fail;
 // What ALFA's good order asks for.
 const ORDER: &str = "order ALFA A-1 BETA 100";
 
-// A reader's input is told this.
-fn is_told<R: Read>(desk: &TestDesk, reader: &mut R, told: &str) -> Result<(), Fail> {
+// A reader's input is answered this.
+fn is_answered<R: Read>(desk: &TestDesk, reader: &mut R, expected: &str) -> Result<(), Fail> {
     let said = desk.asks(reader)?;
-    if said.as_str() == told {
+    if said.as_str() == expected {
         return Ok(());
     }
     Err(Fail::from(said))
@@ -23,7 +23,7 @@ fn a_request_is_the_same_wherever_it_is_cut(rt: HostRuntime) -> Result<(), Fail>
     let desk = alfas_desk(rt.alloc())?;
     for cut in 0..=GOOD.len() {
         let (first, second) = GOOD.as_bytes().split_at_checked(cut).ok_or("no cut")?;
-        is_told(&desk, &mut first.chain(second), ORDER)?;
+        is_answered(&desk, &mut first.chain(second), ORDER)?;
     }
     Ok(())
 }
@@ -31,7 +31,7 @@ fn a_request_is_the_same_wherever_it_is_cut(rt: HostRuntime) -> Result<(), Fail>
 #[test]
 fn single_bytes_make_the_same_request(rt: HostRuntime) -> Result<(), Fail> {
     let desk = alfas_desk(rt.alloc())?;
-    is_told(&desk, &mut Drip::new(GOOD.as_bytes()), ORDER)
+    is_answered(&desk, &mut Drip::new(GOOD.as_bytes()), ORDER)
 }
 
 #[test]
@@ -39,7 +39,7 @@ fn each_beginning_of_a_request_is_truncated(rt: HostRuntime) -> Result<(), Fail>
     let desk = alfas_desk(rt.alloc())?;
     for cut in 0..GOOD.len() {
         let (mut first, _) = GOOD.as_bytes().split_at_checked(cut).ok_or("no cut")?;
-        is_told(&desk, &mut first, "400 64 Truncated")?;
+        is_answered(&desk, &mut first, "400 64 Truncated")?;
     }
     Ok(())
 }

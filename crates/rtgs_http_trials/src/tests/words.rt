@@ -16,7 +16,6 @@ fn with_due(
     }
 }
 
-// A command, in words.
 fn command_words(alloc: Global, command: &Command) -> Result<String, AllocError> {
     match command {
         Command::Add { code, name, .. } => format!(in alloc; "add {code} {name}"),
@@ -49,7 +48,6 @@ fn command_words(alloc: Global, command: &Command) -> Result<String, AllocError>
     }
 }
 
-// A reading, in words.
 fn reading_words(alloc: Global, reading: &Reading) -> Result<String, AllocError> {
     match reading {
         Reading::Order { sender, reference } => {

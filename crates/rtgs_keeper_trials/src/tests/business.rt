@@ -80,7 +80,6 @@ impl Business {
         }
     }
 
-    /// The next command.
     pub fn command(&mut self) -> Result<Command, Fail> {
         match self.below(32) {
             5 | 6 => {

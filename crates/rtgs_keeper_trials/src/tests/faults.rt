@@ -26,7 +26,7 @@ fn each_of_the_keeper(alloc: Global, trial: &Trial) -> Result<usize, Fail> {
 
 /// Tries the commands with each failure. It fails unless they met one of the log in so many runs, one of the database
 /// file in so many, and one of the keeper in so many.
-pub fn meets(alloc: Global, trial: &Trial, told: [usize; 3]) -> Result<(), Fail> {
+pub fn meets(alloc: Global, trial: &Trial, expected: [usize; 3]) -> Result<(), Fail> {
     let keeper = each_of_the_keeper(alloc, trial)?;
     let (log, db) = failures_of_two::<InMemory, OnDisks>(
         alloc,
@@ -34,7 +34,7 @@ pub fn meets(alloc: Global, trial: &Trial, told: [usize; 3]) -> Result<(), Fail>
         Failing::Log,
         Failing::Database,
     )?;
-    if [log, db, keeper] == told {
+    if [log, db, keeper] == expected {
         Ok(())
     } else {
         Err(Fail::from(format!(in alloc;

@@ -157,17 +157,17 @@ impl Task for Looks {
 /// A desk is opened, and tells of its book.
 #[derive(Drop)]
 struct Tells {
-    told: Option<String>,
+    seen: Option<String>,
 }
 
 impl Job for Tells {
     fn done<K: Booked>(&mut self, alloc: Global, keeper: K) -> Result<(K, bool), Fail> {
         let mut desk = desk_over(alloc, keeper)?;
-        let mut told = String::new(alloc);
+        let mut seen = String::new(alloc);
         for day in DAYS {
-            told.push_str(seen_of(alloc, &mut desk, day)?.as_str())?;
+            seen.push_str(seen_of(alloc, &mut desk, day)?.as_str())?;
         }
-        self.told = Some(told);
+        self.seen = Some(seen);
         Ok((desk.into_keeper(), true))
     }
 }
@@ -180,10 +180,10 @@ fn shown_in<S: OverTables>(alloc: Global, store: &mut S) -> Result<String, Fail>
 }
 
 // What a desk in a store tells.
-fn told_in<S: OverTables>(alloc: Global, store: &mut S) -> Result<String, Fail> {
-    let mut tells = Tells { told: None };
+fn seen_in<S: OverTables>(alloc: Global, store: &mut S) -> Result<String, Fail> {
+    let mut tells = Tells { seen: None };
     store.session(alloc, false, &mut tells)?;
-    Ok(tells.told.ok_or("nothing is told")?)
+    Ok(tells.seen.ok_or("nothing is reported")?)
 }
 
 // Makes the store new, with the book in tables of the earlier version.
@@ -206,7 +206,7 @@ struct Known {
     older: String,
     newest: String,
     /// What a desk tells of it.
-    told: String,
+    seen: String,
 }
 
 impl Known {
@@ -214,12 +214,12 @@ impl Known {
     fn of<S: OverTables>(alloc: Global, store: &mut S, older: &Older) -> Result<Known, Fail> {
         begin(alloc, store, &older.book)?;
         let newest = shown_in(alloc, store)?;
-        let told = told_in(alloc, store)?;
+        let seen = seen_in(alloc, store)?;
         begin_older(alloc, store, older)?;
         Ok(Known {
             older: shown_in(alloc, store)?,
             newest,
-            told,
+            seen,
         })
     }
 
@@ -248,8 +248,8 @@ impl Known {
         if !matches!(ended, Ended::Closed) || again.answer != Some(Ok(!is_newest)) {
             return Err(Fail::new("another answer when it comes again"));
         }
-        let told = told_in(alloc, store)?;
-        if self.is_newest(alloc, store)? && told.as_str() == self.told.as_str() {
+        let seen = seen_in(alloc, store)?;
+        if self.is_newest(alloc, store)? && seen.as_str() == self.seen.as_str() {
             Ok(())
         } else {
             Err(Fail::new("another end"))

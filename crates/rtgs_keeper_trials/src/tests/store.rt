@@ -25,13 +25,11 @@ pub enum Ended {
     Stopped,
     /// It failed as it was closed.
     Unclosed,
-    /// It was closed.
     Closed,
 }
 
 /// A keeper that gives its whole book.
 pub trait Booked: Keeper + Drop {
-    /// The whole book.
     fn book(&mut self, alloc: Global) -> Result<Book, Fault>;
 }
 

@@ -255,9 +255,9 @@ fn fault_in_memory(alloc: Global, attempt: Attempt<'_>) -> Result<Option<Fault>,
     }
 }
 
-// Fails unless this is the fault that is told, or none is met and none is told.
-fn is_as_told(met: Option<Fault>, told: Option<Fault>) -> Result<(), Fail> {
-    if met == told {
+// Fails unless this is the fault that is expected, or none is met and none is expected.
+fn is_as_expected(met: Option<Fault>, expected: Option<Fault>) -> Result<(), Fail> {
+    if met == expected {
         Ok(())
     } else {
         Err(Fail::new("another fault, or none"))
@@ -271,17 +271,17 @@ fn a_desk_is_found_again_and_again(rt: HostRuntime) -> Result<(), Fail> {
     first.push(command("post ALFA P-1 1000")?)?;
     let more = commands(rt.alloc(), "post BETA P-2 5")?;
     let life = Attempt::Life(first.as_slice(), more.as_slice());
-    is_as_told(fault_in_memory(rt.alloc(), life)?, None)
+    is_as_expected(fault_in_memory(rt.alloc(), life)?, None)
 }
 
 #[test]
 fn a_desk_is_opened_over_tables_that_were_made(rt: HostRuntime) -> Result<(), Fail> {
     let fault = fault_in_memory(rt.alloc(), Attempt::Opening { is_made: true })?;
-    is_as_told(fault, None)
+    is_as_expected(fault, None)
 }
 
 #[test]
 fn an_empty_database_is_no_desk(rt: HostRuntime) -> Result<(), Fail> {
     let fault = fault_in_memory(rt.alloc(), Attempt::Opening { is_made: false })?;
-    is_as_told(fault, Some(Fault::NotADeskFile))
+    is_as_expected(fault, Some(Fault::NotADeskFile))
 }

@@ -67,7 +67,6 @@ pub struct Work {
     pub progress: Progress,
     /// Why the desk was not opened.
     pub fault: Option<Fault>,
-    /// What was found.
     pub found: Option<String>,
 }
 

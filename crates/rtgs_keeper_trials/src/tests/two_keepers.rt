@@ -1,13 +1,13 @@
 //! Ten thousand commands in one book, and five thousand in another, over both keepers: in memory, and on disks that are
 //! closed and opened again every hundred. One day in two is automatic. After each five hundred, or each hundred, both
 //! tell the same of their books.
+use super::answers::Answers;
 use super::business::Business;
 use super::disks::OnDisks;
 use super::memory::InMemory;
 use super::runs::found_in;
 use super::seen::{KINDS, PLACES, kind_of};
 use super::store::{Booked, Ended, Job, Store};
-use super::told::Told;
 use super::trial::{Part, Work};
 use rtgs_book::Refusal;
 use rtgs_tests_desks::desk_over;
@@ -22,7 +22,7 @@ struct Run {
     // how many times fifty commands were given, and after how many of these the keeper tells of its book
     fifties: u64,
     pause: u64,
-    told: Told,
+    answers: Answers,
 }
 
 impl Run {
@@ -32,7 +32,7 @@ impl Run {
             business: Business::new(alloc, seed),
             fifties: 0,
             pause,
-            told: Told::new(alloc),
+            answers: Answers::new(alloc),
         }
     }
 
@@ -49,20 +49,20 @@ impl Run {
             if !self.business.is_of_the_day(&reply) {
                 return Err(Fail::new("a reply of another kind of day"));
             }
-            self.told.replies.push(reply)?;
+            self.answers.replies.push(reply)?;
         }
         let mut keeper = desk.into_keeper();
         self.fifties = self.fifties.wrapping_add(1);
         if self.fifties.is_multiple_of(self.pause) {
-            self.told.asks(alloc, &mut keeper, self.fifties)?;
+            self.answers.asks(alloc, &mut keeper, self.fifties)?;
         }
         Ok(keeper)
     }
 
     /// Gives a hundred commands to a desk in this store, which is closed then.
-    fn hundred<S: Store>(&mut self, alloc: Global, store: &mut S) -> Result<Told, Fail> {
+    fn hundred<S: Store>(&mut self, alloc: Global, store: &mut S) -> Result<Answers, Fail> {
         if matches!(store.session(alloc, false, self)?, Ended::Closed) {
-            Ok(mem::replace(&mut self.told, Told::new(alloc)))
+            Ok(mem::replace(&mut self.answers, Answers::new(alloc)))
         } else {
             Err(Fail::new("not opened, or not closed"))
         }
@@ -114,15 +114,15 @@ fn answer_alike<M: Store, S: Store>(
     let mut seen = [false; KINDS];
     let (mut stand, mut is_late) = ([false; PLACES], false);
     for _ in 0..hundreds {
-        let told = one.hundred(alloc, memory)?;
-        if !told.is_like(&other.hundred(alloc, store)?) {
+        let answers = one.hundred(alloc, memory)?;
+        if !answers.is_like(&other.hundred(alloc, store)?) {
             return Err(Fail::new("another answer, or another record"));
         }
-        for reply in told.replies.as_slice() {
+        for reply in answers.replies.as_slice() {
             let kind = kind_of(reply);
             seen[kind] = true;
         }
-        told.notes_due(&mut stand, &mut is_late);
+        answers.notes_due(&mut stand, &mut is_late);
     }
     if seen.contains(&false) || stand.contains(&false) || !is_late {
         let seen = format!(in alloc; "{seen:?}, {stand:?}, {is_late}: not all of it was seen")?;

@@ -51,7 +51,7 @@ fn day_fits(day: &Day) -> bool
     }
 }
 
-// Whether no order bears a date of a weekend.
+// Whether no order has a date of a weekend.
 fn are_order_weekdays(orders: &[Order]) -> bool
     ensures { IsTrue result ↔ AreWeekdays (map (λ (o : Order). o.date) orders.now) }
 {

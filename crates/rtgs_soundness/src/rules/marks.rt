@@ -10,12 +10,12 @@ ghost use Rattle.rtgs_book.specs.Soundness.{AreNumbered, MarksAreNumbered, Marks
 ghost use Rattle.rtgs_soundness.specs.Tallies.{AreTallies, IsCounted, IsTallyWithin, tally_at, tally_of_mark};
 ghost use Rattle.rtgs_soundness.specs.Tallies.{with_amount};
 
-use crate::rules::tally::Tally;
+use crate::rules::mark_tally::MarkTally;
 use rtgs_book::{Book, Mark, Order, OrderState};
 use rtgs_money::{Amount, BusinessDate};
 use std::alloc::{AllocError, Global};
 
-/// Whether each settled order's mark is there and bears its date, and each mark counts its orders, at least one, and
+/// Whether each settled order's mark is there and has its date, and each mark counts its orders, at least one, and
 /// their value.
 pub fn marks_fit(alloc: Global, book: &Book) -> Result<bool, AllocError>
     requires few { length book.now.orders ≤ LARGEST_NUMBER }
@@ -68,17 +68,17 @@ fn is_dated(marks: &[Mark], number: u64, date: BusinessDate) -> bool
 }
 
 // The tallies of so many marks. The mark with a number stands at its place.
-fn tallied(alloc: Global, marks: usize, orders: &[Order]) -> Result<Vec<Tally>, AllocError>
+fn tallied(alloc: Global, marks: usize, orders: &[Order]) -> Result<Vec<MarkTally>, AllocError>
     requires { length orders.now ≤ LARGEST_NUMBER }
     ensures { IfOk result (λ tallies. (length tallies.items ≡ marks) × AreTallies orders.now tallies.items) }
 {
-    let mut tallies = vec![in alloc; Tally { count: 0, value: 0 }; marks]?;
+    let mut tallies = vec![in alloc; MarkTally { count: 0, value: 0 }; marks]?;
     add_orders(tallies.as_mut_slice(), orders);
     Ok(tallies)
 }
 
 // Adds each settled order to the tally of its mark.
-fn add_orders(tallies: &mut [Tally], orders: &[Order])
+fn add_orders(tallies: &mut [MarkTally], orders: &[Order])
     requires few { length orders.now ≤ LARGEST_NUMBER }
     requires none { AreTallies [] tallies.old }
     requires zeros { All (IsTallyWithin 0) tallies.old }
@@ -91,7 +91,7 @@ fn add_orders(tallies: &mut [Tally], orders: &[Order])
 }
 
 // Adds the order, if it is settled, to the tally of its mark, if there is one.
-fn add_order(tallies: &mut [Tally], order: &Order)
+fn add_order(tallies: &mut [MarkTally], order: &Order)
     requires { All (IsTallyWithin (10 ^ 28)) tallies.old }
     ensures length { length tallies.new ≡ length tallies.old }
     ensures sums { (earlier : List Order) → AreTallies earlier tallies.old
@@ -105,7 +105,7 @@ fn add_order(tallies: &mut [Tally], order: &Order)
 }
 
 // Adds an order of this amount to the tally of the mark with this number, if there is one.
-fn add_under(tallies: &mut [Tally], mark: u64, amount: Amount)
+fn add_under(tallies: &mut [MarkTally], mark: u64, amount: Amount)
     requires { All (IsTallyWithin (10 ^ 28)) tallies.old }
     ensures length { length tallies.new ≡ length tallies.old }
     ensures added { (place : ℕ) → place < length tallies.old → tally_at tallies.new place
@@ -120,7 +120,7 @@ fn add_under(tallies: &mut [Tally], mark: u64, amount: Amount)
 }
 
 // Whether each mark has at least one order, and counts its orders and their value.
-fn are_counted(tallies: &[Tally], marks: &[Mark]) -> bool
+fn are_counted(tallies: &[MarkTally], marks: &[Mark]) -> bool
     requires length { length tallies.now ≡ length marks.now }
     requires numbered { AreNumbered (map (λ (m : Mark). m.number) marks.now) }
     ensures { (orders : List Order) → AreTallies orders tallies.now → (IsTrue result

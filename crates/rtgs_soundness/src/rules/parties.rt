@@ -24,7 +24,6 @@ pub fn parties_are_known(alloc: Global, book: &Book) -> Result<bool, AllocError>
     Ok(are_among(&codes, book))
 }
 
-/// The participants' codes.
 pub fn codes_of(alloc: Global, participants: &[Participant]) -> Result<Vec<Code>, AllocError>
     ensures { IfOk result (λ codes. codes.items ≡ map (λ (p : Participant). p.code) participants.now) }
 {

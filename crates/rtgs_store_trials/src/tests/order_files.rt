@@ -280,23 +280,23 @@ fn kind_text(alloc: Global, fault: BatchFault) -> Result<String, Fail> {
 }
 
 // Fails unless the fault has this number, this name and these statuses.
-fn is_told(alloc: Global, fault: BatchFault, known: &str) -> Result<(), Fail> {
-    let told = kind_text(alloc, fault)?;
-    is_same(told.as_str(), known)
+fn is_known_as(alloc: Global, fault: BatchFault, known: &str) -> Result<(), Fail> {
+    let text = kind_text(alloc, fault)?;
+    is_same(text.as_str(), known)
 }
 
 #[test]
 fn faults_have_numbers_names_and_statuses(rt: HostRuntime) -> Result<(), Fail> {
     let alloc = rt.alloc();
     let row = BatchFault::BadRow { row: 3 };
-    is_told(
+    is_known_as(
         alloc,
         BatchFault::BadHeader,
         "40 BadHeader Some(400) Some(1)",
     )?;
-    is_told(alloc, row, "41 BadRow Some(400) Some(1)")?;
-    is_told(alloc, BatchFault::BadCount, "42 BadCount Some(400) Some(1)")?;
-    is_told(
+    is_known_as(alloc, row, "41 BadRow Some(400) Some(1)")?;
+    is_known_as(alloc, BatchFault::BadCount, "42 BadCount Some(400) Some(1)")?;
+    is_known_as(
         alloc,
         BatchFault::OutOfMemory,
         "90 OutOfMemory Some(503) Some(3)",

@@ -35,11 +35,11 @@ pub fn follows<A: Answers>(alloc: Global, answering: &mut A, script: &str) -> Re
 
 /// Fails unless the line is answered as it tells.
 fn follows_line<A: Answers>(alloc: Global, answering: &mut A, line: &str) -> Result<(), Fail> {
-    let Some((asked, told)) = line.split_once(" => ") else {
+    let Some((asked, expected)) = line.split_once(" => ") else {
         return without_answer(alloc, line);
     };
     let answer = answering.answer(alloc, asked)?;
-    if answer.as_str() == told {
+    if answer.as_str() == expected {
         return Ok(());
     }
     answered_otherwise(alloc, line, answer.as_str())

@@ -131,7 +131,6 @@ pub fn meddled<S: Alter + Drop>(keeper: SqlKeeper<S>, sql: &str) -> Result<SqlKe
     }
 }
 
-/// A desk over a keeper.
 pub fn desk_over<K: Keeper + Drop>(alloc: Global, keeper: K) -> Result<Desk<K>, Fail> {
     match Desk::open(alloc, keeper) {
         Ok(desk) => Ok(desk),

@@ -103,7 +103,6 @@ fn tables_follow(rt: &HostRuntime, script: &str) -> Result<(), Fail> {
     follows(rt.alloc(), &mut Meddling, script)
 }
 
-/// The book of new tables.
 fn new_book(alloc: Global) -> Result<Book, Fail> {
     let mut keeper = new_keeper(alloc)?;
     Ok(keeper.load(alloc)?)
@@ -112,8 +111,8 @@ fn new_book(alloc: Global) -> Result<Book, Fail> {
 #[test]
 fn a_new_book_is_empty(rt: HostRuntime) -> Result<(), Fail> {
     let book = new_book(rt.alloc())?;
-    let told = (book.participants.is_empty(), book.day.date.is_none());
-    assert_eq!(rt; told, (true, true));
+    let found = (book.participants.is_empty(), book.day.date.is_none());
+    assert_eq!(rt; found, (true, true));
     Ok(())
 }
 
@@ -177,9 +176,9 @@ fn faults_and_postings<S: Alter + Drop>(
 #[test]
 fn a_repeated_key_fails_the_keeper(rt: HostRuntime) -> Result<(), Fail> {
     let keeper = two_banks(rt.alloc())?;
-    let told = faults_and_postings(rt.alloc(), keeper)?;
+    let found = faults_and_postings(rt.alloc(), keeper)?;
     let faults = [Some(CommitFault::Store), Some(CommitFault::Failed)];
-    assert_eq!(rt; told, (faults, Some(Fault::StoreFault), 1));
+    assert_eq!(rt; found, (faults, Some(Fault::StoreFault), 1));
     Ok(())
 }
 

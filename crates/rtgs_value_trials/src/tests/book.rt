@@ -1,5 +1,5 @@
 //! Values from outside, and each call on its happy path.
-use super::refusals::told;
+use super::refusals::row_of;
 use super::script::{ensure, is};
 use super::setting::{MONDAY, TUESDAY, date};
 use rtgs_book::{
@@ -211,7 +211,6 @@ fn break_rule(records: &mut Records, rule: Rule) -> Result<(), Fail> {
     Ok(())
 }
 
-// The book with these records.
 fn book_with(alloc: Global, records: &Records) -> Result<Book, Fail> {
     let mut book = book_of(alloc, 0, 0)?;
     book.participants = Rows::from_vec(Vec::from_slice(alloc, &records.participants)?);
@@ -332,7 +331,7 @@ fn rules_are_numbered(_rt: HostRuntime) -> Result<(), Fail> {
 
 // What a refusal is known by.
 fn is_known_by(alloc: Global, refusal: Refusal, known: &str) -> Result<(), Fail> {
-    is(told(alloc, refusal.kind())?.as_str(), known)
+    is(row_of(alloc, refusal.kind())?.as_str(), known)
 }
 
 // The refusals of a participant and of an order that are not there, and of a close.
@@ -359,7 +358,7 @@ fn refusals_are_numbered(rt: HostRuntime) -> Result<(), Fail> {
     refusals_of_commands(rt.alloc())?;
     refusals_of_desks(rt.alloc())?;
     let rule = Rule::StoredBalances;
-    let fault = told(rt.alloc(), Fault::Inconsistent { rule }.kind())?;
+    let fault = row_of(rt.alloc(), Fault::Inconsistent { rule }.kind())?;
     is(
         fault.as_str(),
         "Inconsistent = 94 Inconsistent None Some(3)",

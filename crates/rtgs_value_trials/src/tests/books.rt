@@ -6,7 +6,6 @@ use rtgs_money::{Amount, BusinessDate, Cents, Credit, KeyDigest, Name, PostingAm
 use std::alloc::Global;
 use std::test::Fail;
 
-/// The records of a book.
 #[derive(Drop)]
 struct Records {
     participants: Vec<Participant>,

@@ -138,10 +138,10 @@ fn waiting(alloc: Global, queued: u32, held: u32) -> Result<String, Fail> {
 
 // A line's numbers of orders are judged as the line tells.
 fn is_full(alloc: Global, line: &str) -> Result<(), Fail> {
-    let (numbers, told) = sides(line, " => ")?;
+    let (numbers, expected) = sides(line, " => ")?;
     let (queued, held) = sides(numbers, " ")?;
     let records = waiting(alloc, queued.parse::<u32>()?, held.parse::<u32>()?)?;
-    is(judged(alloc, records.as_str())?.as_str(), told)
+    is(judged(alloc, records.as_str())?.as_str(), expected)
 }
 
 #[test]

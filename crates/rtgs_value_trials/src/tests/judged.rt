@@ -32,10 +32,10 @@ fn records_of(alloc: Global, line: &str) -> Result<String, Fail> {
 
 // A line's book is judged as the line tells.
 fn is_judged(alloc: Global, line: &str) -> Result<(), Fail> {
-    let (records, told) = sides(line, " => ")?;
+    let (records, expected) = sides(line, " => ")?;
     let records = records_of(alloc, records)?;
     let found = judged(alloc, records.as_str())?;
-    if found.as_str() == told {
+    if found.as_str() == expected {
         Ok(())
     } else {
         Err(Fail::new(format_args!("{line}, and not {found}")))

@@ -5,13 +5,12 @@ use std::alloc::Global;
 use std::test::Fail;
 
 /// The kind and what it is known by: number, name, status of the HTTP reply, exit status of the program.
-pub fn told(alloc: Global, kind: RefusalKind) -> Result<String, Fail> {
+pub fn row_of(alloc: Global, kind: RefusalKind) -> Result<String, Fail> {
     let (number, name) = (kind.number(), kind.name());
     let (http, exit) = (kind.http_status(), kind.exit_status());
     Ok(format!(in alloc; "{kind:?} = {number} {name} {http:?} {exit:?}")?)
 }
 
-/// The whole table.
 const TABLE: &str = "
 UnknownParticipant = 1 UnknownParticipant Some(404) Some(1)
 UnknownReceiver = 2 UnknownReceiver Some(409) Some(1)
@@ -90,9 +89,9 @@ fn kind_after(kind: RefusalKind) -> Option<RefusalKind> {
 }
 
 // There is a kind, and it is that of this line.
-fn is_told(alloc: Global, kind: Option<RefusalKind>, line: &str) -> Result<(), Fail> {
+fn is_row(alloc: Global, kind: Option<RefusalKind>, line: &str) -> Result<(), Fail> {
     let kind = kind.ok_or("a row after that of the last kind")?;
-    is(told(alloc, kind)?.as_str(), line)
+    is(row_of(alloc, kind)?.as_str(), line)
 }
 
 #[test]
@@ -100,7 +99,7 @@ fn kinds_have_numbers_names_and_statuses(rt: HostRuntime) -> Result<(), Fail> {
     let mut next = Some(RefusalKind::UnknownParticipant);
     let mut rows = 0usize;
     for line in lines_of(TABLE)? {
-        is_told(rt.alloc(), next, line)?;
+        is_row(rt.alloc(), next, line)?;
         next = next.and_then(kind_after);
         rows = rows.saturating_add(1);
     }

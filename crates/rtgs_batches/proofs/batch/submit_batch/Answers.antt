@@ -12,7 +12,7 @@ use Rattle.rtgs_batches.proofs.batch.submit_batch.Goals as goal
 
 pub loop-row-init : goal.loop-row-init
 loop-row-init g c = let none : c.in_ok-replies.replies.items ≡ [] = search rules in record {
-  told = search rules;
+  counted = search rules;
   room = search rules;
   honest = λ h. h;
   works = refl;
@@ -27,7 +27,7 @@ loop-row-preserved g c =
     let e = c.in-Ok.ensures in
     let replies = c.loop-row.replies.items in
     record {
-      told = grind (arith, common_steps, c.push_reserved.ensures.items, i.told);
+      counted = grind (arith, common_steps, c.push_reserved.ensures.items, i.counted);
       room = grind (arith, common_steps, c.push_reserved.ensures.capacity, i.room);
       honest = λ h. i.honest (e.honest h);
       works = e.only_fault (λ q. cc) ∙ i.works;
@@ -64,7 +64,7 @@ returns-in-Err-clause-sent g c honest book held =
     c.in-Err.refusal c.submit_row.new.desk
     (c.holds_a_sound_book.ensures.sound book held).sound (c.holds_a_sound_book.ensures.calm book held)
     c.loop-row-test.true c.row-item.is so.shown
-    (as_many so.given c.loop-row.replies.items so.shown ∙ i.told) so.judged e.unjudged so.run
+    (as_many so.given c.loop-row.replies.items so.shown ∙ i.counted) so.judged e.unjudged so.run
     (subst (λ (r : Reply). Acts g.K.Keeper so.last (order_of c.args.sender c.row-item.result) r c.submit_row.new.desk)
     (refused_whole done.0 c.in-Err.refusal done.1) done.2)
 
@@ -76,7 +76,7 @@ returns-clause-sent g c honest book held =
     let i = c.loop-row.invariant in
     let so = i.so_far honest book held in
     let all : length c.loop-row.replies.items ≡ length c.args.rows.now =
-    grind (arith, i.told, c.loop-row-test.false, c.loop-row.auto.row-index-end) in
+    grind (arith, i.counted, c.loop-row-test.false, c.loop-row.auto.row-index-end) in
     let many = as_many so.given c.loop-row.replies.items so.shown in
     sent_at_end g.K.Keeper (record {
       lasts = c.runs_last.ensures;
@@ -87,7 +87,7 @@ returns-clause-sent g c honest book held =
     (c.holds_a_sound_book.ensures.sound book held).sound (c.holds_a_sound_book.ensures.calm book held) so.shown
     (many ∙ all) so.judged
     (subst (λ n. Run book (orders_of c.args.sender (take n c.args.rows.now)) so.given so.last)
-    (sym (many ∙ i.told)) so.run)
+    (sym (many ∙ i.counted)) so.run)
     so.held
     (λ found left. (c.holds_a_sound_book-2.ensures.after_a_crash so.last found so.held).0 left)
     (c.holds_a_sound_book-2.ensures.whole_after_a_crash so.last so.held)

@@ -6,7 +6,7 @@ use Rattle.rtgs_batches.proofs.batch.submit_batch.Given as goal
 
 abbrev pub invariant-loop-row : goal.invariant-loop-row
 invariant-loop-row g l = record {
-  told : length l.replies.items ≡ l.row-index;
+  counted : length l.replies.items ≡ l.row-index;
   room : length l.rows ≤ vec_capacity l.replies;
   honest : g.K.Keeper.is_honest l.desk.keeper → g.K.Keeper.is_honest l.fn.desk.keeper;
   works : g.K.Keeper.has_failed l.desk.keeper ≡ g.K.Keeper.has_failed l.fn.desk.keeper;

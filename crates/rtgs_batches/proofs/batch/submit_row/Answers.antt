@@ -9,11 +9,11 @@ use Rattle.rtgs_batches.proofs.batch.submit_row.Goals as goal
 pub accepted-requires : goal.accepted-requires
 accepted-requires g c = c.in-Ok.ensures.of_its_kind.0
 
--- a refusal is told as it is, whether the desk judged the order or not
-told : (refusal : Refusal) (result : Result RowReply Refusal)
+-- a refusal is passed on as it is, whether the desk judged the order or not
+passed_on : (refusal : Refusal) (result : Result RowReply Refusal)
     → (is_judged (Err refusal) ≡ true → result ≡ Ok (Refused refusal))
     → (is_judged (Err refusal) ≡ false → result ≡ Err refusal) → replied result ≡ Err refusal
-told refusal result judged unjudged = by (is_judged (Err refusal)) refl
+passed_on refusal result judged unjudged = by (is_judged (Err refusal)) refl
   where
     by : (b : Bool) → is_judged (Err refusal) ≡ b → replied result ≡ Err refusal
     by true e = ap replied (judged e)
@@ -22,7 +22,7 @@ told refusal result judged unjudged = by (is_judged (Err refusal)) refl
 pub returns-in-Err-clause-acts : goal.returns-in-Err-clause-acts
 returns-in-Err-clause-acts g c = λ honest book holds. (
   Err c.in-Err.refusal,
-  sym (told c.in-Err.refusal c.refused.result c.refused.ensures.judged c.refused.ensures.unjudged),
+  sym (passed_on c.in-Err.refusal c.refused.result c.refused.ensures.judged c.refused.ensures.unjudged),
   c.in-Err.ensures.acts honest book holds,
 )
 

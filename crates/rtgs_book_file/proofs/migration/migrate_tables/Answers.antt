@@ -13,7 +13,7 @@ returns-in-Ok-clause-migrated g c =
       opened = λ clean. opens (it.honest clean);
       found = λ clean. c.in_ok-conn.ensures.found (it.honest clean);
       did = λ clean. it.migrated clean (opens (it.honest clean)).0.is_open;
-      closed = subst (LeavesClosed now) (sym c.let_go.ensures.files) c.copied.ensures.closed;
+      closed = subst (LeavesClosed now) (sym c.release.ensures.files) c.copied.ensures.closed;
     }
 
 pub returns-in-Err-clause-refused : goal.returns-in-Err-clause-refused
@@ -26,5 +26,5 @@ returns-in-Err-clause-refused g c =
       opened = λ clean. opens (it.honest clean);
       found = λ clean. c.in_ok-conn.ensures.found (it.honest clean);
       refused = λ clean. it.refused clean (opens (it.honest clean)).0.is_open;
-      given_up = c.of.ensures;
+      abandoned = c.of.ensures;
     }

@@ -30,7 +30,7 @@ returns-in-Ok-clause-made g c = record {
   honest = c.in-Ok.ensures.stops.honest;
   leaves = λ clean. c.in-Ok.ensures.stops.leaves clean
       (blank_of _ (c.in_ok-conn.ensures.opened (c.in-Ok.ensures.stops.honest clean)).0 c.in-Ok.ensures.stops.blank);
-  closed = subst (LeavesClosed c.in-Ok.made) (sym c.let_go.ensures.files) c.copied.ensures.closed;
+  closed = subst (LeavesClosed c.in-Ok.made) (sym c.release.ensures.files) c.copied.ensures.closed;
 }
 
 pub returns-in-Err-clause-refused : goal.returns-in-Err-clause-refused
@@ -43,5 +43,5 @@ returns-in-Err-clause-refused g c = record {
   taken = λ other. one_error c.make.result _ _ _ _ c.in-Err.is (c.make.ensures.taken other);
   refused = λ clean none. c.in-Err.ensures.refused clean
       (blank_of _ (c.in_ok-conn.ensures.opened (c.in-Err.ensures.honest clean)).0 none);
-  given_up = c.of.ensures;
+  abandoned = c.of.ensures;
 }

@@ -27,5 +27,5 @@ returns-in-Err-clause-refused g c =
       refused = λ honest. it.refused honest (opens (it.back honest)).0.is_open;
       failed = it.fault;
       works = it.only_fault;
-      given_up = subst (λ conn. LeavesNoMore conn files) c.into_connection.ensures c.of-left.ensures;
+      abandoned = subst (λ conn. LeavesNoMore conn files) c.into_connection.ensures c.of-left.ensures;
     }

@@ -17,7 +17,7 @@ image log db = record { log = log; db = db }
 abbrev seen : List ℕ → List ℕ → Bool → List Event → List ℕ
 seen log db is_log history = (replay (cond is_log log db) history).seen
 
--- no file was opened, or it is told what the files held
+-- no file was opened, or it is known what the files held
 reached : {D : Type 0} (g : disk.Ghosts D) (held : Image) (error : SqlError) (IsLog IsDb : Files D → Type 0)
     → ((files : Files D) → IsLog files → IsDb files → image_of g files ≡ held) → (left : Option (Leftover D g))
     → (left ≡ None → IsOutOfReach error)
@@ -38,7 +38,7 @@ returns-in-Err-clause-refused g c =
     let alike = seen g.S.Start.log g.S.Start.db in
     record {
       error = c.in-Err.error;
-      told = c.of-in-Err.ensures;
+      reported = c.of-in-Err.ensures;
       named = c.in-Err.ensures.named;
       why = reached _ _ c.in-Err.error (λ files. IsFresh true files.log) (λ files. IsFresh false files.db)
           (λ files log db. ap₂ image (ap₂ alike log.0 log.1) (ap₂ alike db.0 db.1)) c.in-Err.left

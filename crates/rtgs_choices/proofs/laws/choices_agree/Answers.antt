@@ -1,5 +1,5 @@
 use Rattle.rtgs_choices.proofs.Agree.{balances_agree, count_is, value_is}
-use Rattle.rtgs_choices.proofs.Told.{index_of-code_at, by_code-at}
+use Rattle.rtgs_choices.proofs.Inputs.{index_of-code_at, by_code-at}
 use Rattle.rtgs_choices.proofs.laws.choices_agree.Goals as goal
 
 pub returns : goal.returns

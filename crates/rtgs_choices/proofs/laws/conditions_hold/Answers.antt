@@ -1,5 +1,5 @@
 use Rattle.rtgs_choices.proofs.Agree.{payments-le}
-use Rattle.rtgs_choices.proofs.Told.{length-positions, length-queues, floored, in_range}
+use Rattle.rtgs_choices.proofs.Inputs.{length-positions, length-queues, floored, in_range}
 use Rattle.rtgs_choices.proofs.laws.conditions_hold.Goals as goal
 
 pub returns : goal.returns

@@ -5,7 +5,6 @@
 use super::bytes::part;
 use std::test::Fail;
 
-/// A column of a row.
 pub fn column(row: &'static str, place: usize) -> &'static str {
     part(row, " | ", place)
 }
@@ -41,14 +40,15 @@ fn count_of(met: &[&'static str], word: &str) -> usize {
     count
 }
 
-/// The words that were met are these, each as often as it is told behind it, and no other: "word count, word count".
+/// The words that were met are these, each as often as the number behind it says, and no other: "word count, word
+/// count".
 pub fn are_met(met: &[&'static str], all: &str) -> Result<(), Fail> {
     let mut sum = 0usize;
-    for told in all.split(", ") {
-        let (word, told_count) = told.split_once(' ').unwrap_or((told, ""));
+    for expected in all.split(", ") {
+        let (word, expected_count) = expected.split_once(' ').unwrap_or((expected, ""));
         let count = count_of(met, word);
-        if told_count.parse::<usize>().unwrap_or(usize::MAX) != count {
-            return Err(Fail::new(format_args!("{word} {count}, and not {told_count}")));
+        if expected_count.parse::<usize>().unwrap_or(usize::MAX) != count {
+            return Err(Fail::new(format_args!("{word} {count}, and not {expected_count}")));
         }
         sum = sum.saturating_add(count);
     }

@@ -1,5 +1,5 @@
-//! Inputs of which the desk may refuse any, and what it must hold for each: a reply that is one of those that are told,
-//! and no command where it was refused.
+//! Inputs of which the desk may refuse any, and what it must hold for each: a reply that is one of those that are
+//! listed, and no command where it was refused.
 mod changed;
 mod edits;
 mod limits;

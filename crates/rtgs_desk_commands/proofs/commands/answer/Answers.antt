@@ -14,7 +14,7 @@ returns-in-Ok-clause-printed g c =
     let command = c.args.command in
     let of_kind = IfOk-at_ok (λ p. IfOk p.1 (IsOfItsKind command)) is
     c.submit.ensures.of_its_kind in
-    IfOk-weaker c.told.result _ _ (λ printed it. (
+    IfOk-weaker c.print.result _ _ (λ printed it. (
       ended_line (done_line (Answered it.0)),
       None,
       (
@@ -27,18 +27,18 @@ returns-in-Ok-clause-printed g c =
         refl,
       ),
       it.2,
-    )) c.told.ensures.printed
+    )) c.print.ensures.printed
 
 pub returns-in-Ok-clause-refused : goal.returns-in-Ok-clause-refused
 returns-in-Ok-clause-refused g c =
     let (book, is, shut, named) = c.in-Ok.ensures.done in
-    IfErr-weaker c.told.result _ _ (λ why it. inr (
+    IfErr-weaker c.print.result _ _ (λ why it. inr (
       it.0,
       book.desk,
       (c.in-Ok.closed, refl, shut),
       submitted_with _ (λ book. book.desk) c.args.command c.submit.result c.submit.ensures.replied book _ _ is it.1,
       it.2,
-    )) c.told.ensures.refused
+    )) c.print.ensures.refused
 
 pub returns-in-Err-clause-refused : goal.returns-in-Err-clause-refused
 returns-in-Err-clause-refused g c = inl (

@@ -6,6 +6,6 @@ pub returns-in-Ok-clause-done : goal.returns-in-Ok-clause-done
 returns-in-Ok-clause-done g c = (
   c.in-Ok.book,
   c.in-Ok.is,
-  subst (LeavesClosed c.in-Ok.book.desk.keeper.conn) (sym c.let_go.ensures.files) c.close.ensures.closed,
-  subst (λ lock. c.let_go.result.name.value ≡ lock.locked.name) c.close.ensures.held c.let_go.ensures.name,
+  subst (LeavesClosed c.in-Ok.book.desk.keeper.conn) (sym c.release.ensures.files) c.close.ensures.closed,
+  subst (λ lock. c.release.result.name.value ≡ lock.locked.name) c.close.ensures.held c.release.ensures.name,
 )

@@ -12,4 +12,4 @@ returns-clause-read g c =
       kept = leaves.kept honest book held;
       after_a_crash = left.after_a_crash;
       whole_after_a_crash = left.whole_after_a_crash;
-    }) it.ensures.told
+    }) it.ensures.answered

@@ -1,6 +1,6 @@
 use Rattle.std.proofs.Common.{sym, subst}
 use Rattle.rtgs_desk_lines.specs.Texts.{Prints}
-use Rattle.rtgs_desk_serving.specs.Serving.{server_text, stop_of_desk, TakesAsTold}
+use Rattle.rtgs_desk_serving.specs.Serving.{server_text, stop_of_desk, TakesAsPrinted}
 use Rattle.rtgs_desk_serving.proofs.serving.serve_desk.Goals as goal
 
 pub returns-in-Ok-clause-served : goal.returns-in-Ok-clause-served
@@ -19,8 +19,9 @@ returns-in-Ok-clause-served g c = (
 
 pub returns-in-Ok-clause-taken : goal.returns-in-Ok-clause-taken
 returns-in-Ok-clause-taken g c =
-    subst (λ port. TakesAsTold c.args.port c.args.count port.left c.serve_all-printed.result
+    subst (λ port. TakesAsPrinted c.args.port c.args.count port.left c.serve_all-printed.result
     (g.O.Write.contents c.args.out.now) (g.O.Write.contents c.serve_all-printed.new.out)) (sym c.of.ensures)
-    (subst (λ count. TakesAsTold c.args.port count c.serve_all-printed.new.connections.left c.serve_all-printed.result
+    (subst (λ count. TakesAsPrinted c.args.port count c.serve_all-printed.new.connections.left
+    c.serve_all-printed.result
     (g.O.Write.contents c.args.out.now) (g.O.Write.contents c.serve_all-printed.new.out)) c.in-Ok.ensures
     c.serve_all-printed.ensures.taken)

@@ -11,8 +11,9 @@ use Rattle.rtgs_desk_texts.proofs.account.account_text.Goals as goal
 pub returns : goal.returns
 returns c fits =
     let same = c.queued_in_64_bits-queued_value.ensures fits in
-    let told = to_z-of_z w64 c.queued_in_64_bits-queued_value.result (subst (FitsSigned w64) (sym same) fits) ∙ same in
-    let value = c.in_ok-value.ensures ∙ ap (λ v. account_with v c.args.reading.now) told in
+    let same_value = to_z-of_z w64 c.queued_in_64_bits-queued_value.result (subst (FitsSigned w64) (sym same) fits)
+    ∙ same in
+    let value = c.in_ok-value.ensures ∙ ap (λ v. account_with v c.args.reading.now) same_value in
     IfOk-weaker c.to_vec.result _ _
     (λ text h. h (rw value (account_has_no_float c.args.reading.now.queued_value c.args.reading.now))
     ∙ ap compact_text value)

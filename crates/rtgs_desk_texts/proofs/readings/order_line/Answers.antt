@@ -4,8 +4,9 @@ use Rattle.rtgs_http_bodies.specs.Readings.{order_data}
 use Rattle.rtgs_desk_texts.proofs.Writing.{refused_order}
 use Rattle.rtgs_desk_texts.proofs.readings.order_line.Goals as goal
 
-pub returns-in-Err-clause-told : goal.returns-in-Err-clause-told
-returns-in-Err-clause-told g c honest book held =
+pub returns-in-Err-clause-answered : goal.returns-in-Err-clause-answered
+returns-in-Err-clause-answered g c honest book held =
     refused_order (λ text. text.items) order_data (participant_of book c.args.sender.now)
-    (order_named book c.args.sender.now c.args.reference.now) c.in-Err.refusal (c.in-Err.ensures.told honest book held)
+    (order_named book c.args.sender.now c.args.reference.now) c.in-Err.refusal
+    (c.in-Err.ensures.answered honest book held)
     (λ is. (c.in-Err.ensures.faults.fault (ap Err is)).1)

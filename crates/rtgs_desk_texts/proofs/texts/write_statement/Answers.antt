@@ -9,7 +9,7 @@ returns-in-Ok-clause-written g c honest book held =
     let before = c.write_statement.ensures.read.honest honest in
     known_account (g.W.Write.contents c.args.out.now) (statement book c.args.code.now c.args.date) _
     (participant_of book c.args.code.now) _ c.write_statement.result (g.W.Write.contents c.write_statement.new.out)
-    (c.in-Ok.ensures.told book held)
+    (c.in-Ok.ensures.answered book held)
     (written (g.W.Write.contents c.args.out.now) (g.W.Write.contents c.write_statement.new.out) _
     c.write_statement.result (c.write_statement.ensures.written honest book held)
     (c.write_statement.ensures.begun honest book held)
@@ -22,7 +22,7 @@ pub returns-in-Err-clause-written : goal.returns-in-Err-clause-written
 returns-in-Err-clause-written g c honest book held =
     refused_account (g.W.Write.contents c.args.out.now) (statement book c.args.code.now c.args.date) _
     (participant_of book c.args.code.now) c.in-Err.refusal
-    (c.texts_have_bytes.ensures.statement book c.args.code.now c.args.date) (c.in-Err.ensures.told book held)
+    (c.texts_have_bytes.ensures.statement book c.args.code.now c.args.date) (c.in-Err.ensures.answered book held)
 
 pub returns-in-Err-clause-leaves : goal.returns-in-Err-clause-leaves
 returns-in-Err-clause-leaves g c = nothing_done g.K.Keeper c.args.desk.now (λ book held. record {

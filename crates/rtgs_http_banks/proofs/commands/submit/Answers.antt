@@ -4,7 +4,7 @@ pub returns-clause-submits : goal.returns-clause-submits
 returns-clause-submits g c honest book held = record {
   reply = c.submit-reply.result;
   acts = c.submit-reply.ensures.acts honest book held;
-  told = c.tell.ensures.told;
+  sent_or_lost = c.tell.ensures.sent_or_lost;
   refused = c.tell.ensures.refused;
   not_failed = λ e.
       let failed = c.submit-reply.ensures.faults.only_failed e in

@@ -16,7 +16,9 @@ returns-clause-submits g c honest book held =
       fault = λ e. (c.in-Ok.ensures.fault e).1;
       works = λ other. c.in-Ok.ensures.only_fault other ∙ c.holds_a_sound_book.ensures.works book held;
       acts = c.in-Ok.ensures.sent honest book held;
-      told = c.or_lost.ensures.told (message (batch_status stopped) Csv (results_text c.args.rows.now replies stopped))
+      sent_or_lost =
+          c.or_lost.ensures.sent_or_lost
+          (message (batch_status stopped) Csv (results_text c.args.rows.now replies stopped))
           c.batch_reply.ensures;
       not_failed = λ e.
           let failed = c.in-Ok.ensures.only_failed e in

@@ -6,9 +6,9 @@ use Rattle.rtgs_http_replies.specs.Kinds.{kind_status}
 use Rattle.rtgs_http_replies.specs.Messages.{json_message}
 use Rattle.rtgs_http_bodies.proofs.refused.refusal_reply.Goals as goal
 
-pub returns-in_default-clause-told : goal.returns-in_default-clause-told
-returns-in_default-clause-told c =
+pub returns-in_default-clause-replied : goal.returns-in_default-clause-replied
+returns-in_default-clause-replied c =
     IfOk-weaker c.kind_reply.result _ _
     (λ reply h. h ∙ rw c.kind.ensures (ap (json_message (kind_status (refusal_kind_of c.args.refusal)))
     (undetailed c.args.refusal c.in_default.not-Overdrawn)))
-    c.kind_reply.ensures.told
+    c.kind_reply.ensures.replied

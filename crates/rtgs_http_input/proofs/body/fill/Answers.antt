@@ -8,7 +8,7 @@ pub returns-in-Full-clause-body : goal.returns-in-Full-clause-body
 returns-in-Full-clause-body g c =
     let known = g.R.Read.remaining in
     let inv = c.loop-turn.invariant in
-    let piece = take c.in-Ok.many c.read_piece.new.piece in
+    let piece = take c.in-Ok.count c.read_piece.new.piece in
     let body = c.feed.new.self in
     let bytes : body.bytes ≡ (c.args.feed.now.bytes ++ inv.3.0) ++ take c.in-Full.taken piece =
     ap (λ b. b.bytes) c.in-Full.ensures.1 ∙ ap (λ b. b ++ take c.in-Full.taken piece) inv.3.1 in

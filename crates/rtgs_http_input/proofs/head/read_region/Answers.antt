@@ -8,7 +8,7 @@ pub returns-in-TooLong-clause-fault : goal.returns-in-TooLong-clause-fault
 returns-in-TooLong-clause-fault g c =
     let known = g.R.Read.remaining in
     let inv = c.loop-turn.invariant in
-    let piece = take c.in-Ok-read_piece.many c.read_piece.new.piece in
+    let piece = take c.in-Ok-read_piece.count c.read_piece.new.piece in
     consumed (known c.args.reader.now) (known c.read_piece.new.reader) (c.loop-turn.feed ++ piece) IsTooLong
     (consumes_more (known c.args.reader.now) (known c.loop-turn.reader)
     (known c.read_piece.new.reader) c.loop-turn.feed piece inv.0 c.in-Ok-read_piece.ensures.bytes.0)

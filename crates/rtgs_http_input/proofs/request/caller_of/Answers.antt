@@ -1,5 +1,5 @@
 use Rattle.std.proofs.Common.{sym, ◌∙◌}
-use Rattle.rtgs_http_input.proofs.Told.{operator_found, participant_found}
+use Rattle.rtgs_http_input.proofs.StepOutcomes.{operator_found, participant_found}
 use Rattle.rtgs_http_input.proofs.request.caller_of.Goals as goal
 
 pub returns-in-Operator-clause-caller : goal.returns-in-Operator-clause-caller
@@ -10,4 +10,4 @@ pub returns-in-Ok-Some-clause-caller : goal.returns-in-Ok-Some-clause-caller
 returns-in-Ok-Some-clause-caller g c =
     participant_found (g.D.Directory.knows c.args.directory.now) c.args.admission c.in-LookUp.route c.in-LookUp.digest
     c.in-Ok-Some.caller c.in-LookUp.is
-    (λ code_of known. sym c.in-Ok-Some.field-0-is ∙ c.in-Ok-Some.ensures.told code_of known)
+    (λ code_of known. sym c.in-Ok-Some.field-0-is ∙ c.in-Ok-Some.ensures.found code_of known)

@@ -4,7 +4,7 @@ use Rattle.rtgs_http_requests.specs.Plans.{AfterCaller}
 use Rattle.rtgs_http_input.specs.Input.{Says, Requests, part}
 use Rattle.rtgs_http_input.specs.declared.unread.Unread.TheVariants.{Faulty}
 use Rattle.rtgs_http_input.proofs.Known.{any, known_map}
-use Rattle.rtgs_http_input.proofs.Told.{asks_none, caller_fails, content_told}
+use Rattle.rtgs_http_input.proofs.StepOutcomes.{asks_none, caller_fails, content_read}
 use Rattle.rtgs_http_input.proofs.request.read_behind.Goals as goal
 
 pub returns-in-Err-clause-asked : goal.returns-in-Err-clause-asked
@@ -33,7 +33,7 @@ returns-clause-asked g c =
     (λ rest. Says (AfterCaller c.in-Ok.plan (first ++ rest) c.in-Ok-caller_of.caller) c.read_content.result)
     (λ rest. (input : List ℕ) → StartsWith input c.args.region.now (first ++ rest)
     → Requests (g.D.Directory.knows c.args.directory.now) c.args.operator.now input c.read_content.result)
-    (λ rest h input starts. content_told (g.D.Directory.knows c.args.directory.now) c.args.operator.now
+    (λ rest h input starts. content_read (g.D.Directory.knows c.args.directory.now) c.args.operator.now
     c.args.region.now c.in-Ok.plan input (first ++ rest) c.in-Ok-caller_of.caller c.read_content.result
     c.in-Ok.ensures.plans starts c.in-Ok-caller_of.ensures.caller h)
     c.read_content.ensures

@@ -4,7 +4,7 @@ use Rattle.rtgs_http_requests.specs.Exchange.{HasBody}
 use Rattle.rtgs_http_requests.specs.Meaning.{Means}
 use Rattle.rtgs_http_input.specs.Input.{StepFails, part}
 use Rattle.rtgs_http_input.proofs.Known.{known_map}
-use Rattle.rtgs_http_input.proofs.Told.{body_fails}
+use Rattle.rtgs_http_input.proofs.StepOutcomes.{body_fails}
 use Rattle.rtgs_http_input.proofs.request.read_content.Goals as goal
 
 pub returns-in-Err-read_body : goal.returns-in-Err-read_body

@@ -5,7 +5,7 @@ use Rattle.rtgs_http_requests.specs.Exchange.{HasRegion}
 use Rattle.rtgs_http_input.specs.Input.{StepFails, Requests, part}
 use Rattle.rtgs_http_input.specs.declared.unread.Unread.TheVariants.{DirectoryFailed}
 use Rattle.rtgs_http_input.proofs.Known.{known_map}
-use Rattle.rtgs_http_input.proofs.Told.{asks_none, region_fails, whole}
+use Rattle.rtgs_http_input.proofs.StepOutcomes.{asks_none, region_fails, whole}
 use Rattle.rtgs_http_input.proofs.request.read_request.Goals as goal
 
 pub returns-in-Err-clause-asked : goal.returns-in-Err-clause-asked

@@ -405,7 +405,7 @@ B-3,settled,4,3
 "#;
 
 #[test]
-fn what_a_batch_is_told(rt: HostRuntime) -> Result<(), Fail> {
+fn what_a_batch_is_answered(rt: HostRuntime) -> Result<(), Fail> {
     follows_on(rt.alloc(), BATCHES)
 }
 
@@ -423,11 +423,15 @@ const NO_MEMORY: &str = r#"503 Service Unavailable {"code":90,"name":"OutOfMemor
 // How many calls of its keeper a desk makes before it keeps the third order of the ring.
 const BEFORE_THE_THIRD: usize = 10;
 
-// The desk at whose third order there is this trouble, and what the order is told.
-fn troubled_at_the_third(alloc: Global, trouble: Trouble, told: &str) -> Result<TestDesk, Fail> {
+// The desk at whose third order there is this trouble, and what the order is answered.
+fn troubled_at_the_third(
+    alloc: Global,
+    trouble: Trouble,
+    expected: &str,
+) -> Result<TestDesk, Fail> {
     let mut desk = troubled(alloc, BEFORE_THE_THIRD, trouble)?;
     desk.follow(TWO_OF_A_RING)?;
-    desk.is_told(THIRD, told)?;
+    desk.is_answered(THIRD, expected)?;
     Ok(desk)
 }
 
@@ -435,16 +439,16 @@ fn troubled_at_the_third(alloc: Global, trouble: Trouble, told: &str) -> Result<
 #[test]
 fn an_order_stands_with_what_followed_it_or_not_at_all(rt: HostRuntime) -> Result<(), Fail> {
     let mut lost = troubled_at_the_third(rt.alloc(), Trouble::Lost, FAULT)?.restarted()?;
-    lost.is_told("GAMA GET /queue", r#"200 OK {"orders":[]}"#)?;
-    lost.is_told(THIRD, CLOSES_THE_RING)?;
+    lost.is_answered("GAMA GET /queue", r#"200 OK {"orders":[]}"#)?;
+    lost.is_answered(THIRD, CLOSES_THE_RING)?;
     let mut kept = troubled_at_the_third(rt.alloc(), Trouble::Kept, FAULT)?.restarted()?;
-    kept.is_told("GAMA GET /queue", r#"200 OK {"orders":[]}"#)?;
-    kept.is_told(THIRD, SETTLED)
+    kept.is_answered("GAMA GET /queue", r#"200 OK {"orders":[]}"#)?;
+    kept.is_answered(THIRD, SETTLED)
 }
 
 #[test]
 fn an_order_without_memory_is_followed_when_it_comes_again(rt: HostRuntime) -> Result<(), Fail> {
     let mut desk = troubled_at_the_third(rt.alloc(), Trouble::OutOfMemory, NO_MEMORY)?;
-    desk.is_told(THIRD, CLOSES_THE_RING)?;
-    desk.is_told(THIRD, SETTLED)
+    desk.is_answered(THIRD, CLOSES_THE_RING)?;
+    desk.is_answered(THIRD, SETTLED)
 }

@@ -47,7 +47,7 @@ fn desk_after(alloc: Global, reads: usize, trouble: Trouble) -> Result<TestDesk,
 }
 
 // Why a text was refused, where it was, and on the lines after that what was written of it.
-fn told(alloc: Global, written: Result<(), BookTextFault>, out: &[u8]) -> Result<String, Fail> {
+fn in_words(alloc: Global, written: Result<(), BookTextFault>, out: &[u8]) -> Result<String, Fail> {
     let refused = match written {
         Ok(()) => None,
         Err(BookTextFault::Refused(refusal)) => Some(refusal),
@@ -57,21 +57,21 @@ fn told(alloc: Global, written: Result<(), BookTextFault>, out: &[u8]) -> Result
     Ok(format!(in alloc; "{refused:?}\n{text}")?)
 }
 
-// What is told of a participant's statement of Monday.
+// What is shown of a participant's statement of Monday.
 fn statement(alloc: Global, desk: &mut TestDesk, code: &str) -> Result<String, Fail> {
     let code = Code::read(code.as_bytes())?;
     let monday = BusinessDate::read(b"2024-03-04")?;
     let mut out = Vec::new(alloc);
     let written = write_statement(alloc, &mut out, &mut desk.desk, &code, monday);
-    told(alloc, written, out.as_slice())
+    in_words(alloc, written, out.as_slice())
 }
 
-// What is told of the report of Monday.
+// What is shown of the report of Monday.
 fn report(alloc: Global, desk: &mut TestDesk) -> Result<String, Fail> {
     let monday = BusinessDate::read(b"2024-03-04")?;
     let mut out = Vec::new(alloc);
     let written = write_report(alloc, &mut out, &mut desk.desk, monday);
-    told(alloc, written, out.as_slice())
+    in_words(alloc, written, out.as_slice())
 }
 
 // What a read is refused with at this trouble.
@@ -83,7 +83,7 @@ fn refusal_of(trouble: Trouble) -> Refusal {
 }
 
 // What the same desk tells of the same text afterwards.
-fn told_after(alloc: Global, trouble: Trouble, whole: &str) -> Result<String, Fail> {
+fn expected_after(alloc: Global, trouble: Trouble, whole: &str) -> Result<String, Fail> {
     match trouble {
         Trouble::Lost | Trouble::Kept => Ok(String::from_str(alloc, "Some(Failed)\n")?),
         Trouble::OutOfMemory => Ok(format!(in alloc; "None\n{whole}")?),
@@ -103,10 +103,10 @@ fn first_lines(alloc: Global, count: usize) -> Result<String, Fail> {
 #[test]
 fn a_third_posting_that_is_not_read_leaves_two(rt: HostRuntime) -> Result<(), Fail> {
     let mut desk = desk_after(rt.alloc(), 2, Trouble::Lost)?;
-    let told = statement(rt.alloc(), &mut desk, "ALFA")?;
+    let shown = statement(rt.alloc(), &mut desk, "ALFA")?;
     assert!(rt; desk.desk.failed());
     is_same(
-        told.as_str(),
+        shown.as_str(),
         "Some(StoreFault)
 statement ALFA 2024-03-04
 posting    000000001 P-1              -                        1.00         -
@@ -115,14 +115,14 @@ posting    000000002 P-2              -                       20.00         -
     )
 }
 
-// What is told of a text that was refused at this trouble, after so many lines of the statement.
-fn told_of(alloc: Global, trouble: Trouble, lines: usize) -> Result<String, Fail> {
+// What is shown of a text that was refused at this trouble, after so many lines of the statement.
+fn expected_begun(alloc: Global, trouble: Trouble, lines: usize) -> Result<String, Fail> {
     let refusal = refusal_of(trouble);
     let begun = first_lines(alloc, lines)?;
     Ok(format!(in alloc; "Some({refusal:?})\n{begun}")?)
 }
 
-// Of ALFA's statement this is told.
+// Of ALFA's statement this is shown.
 fn has_statement(alloc: Global, desk: &mut TestDesk, wanted: &str) -> Result<(), Fail> {
     let found = statement(alloc, desk, "ALFA")?;
     is_same(found.as_str(), wanted)
@@ -130,8 +130,8 @@ fn has_statement(alloc: Global, desk: &mut TestDesk, wanted: &str) -> Result<(),
 
 // The read of a statement after so many meets this trouble, and so many lines are written before.
 fn is_begun(alloc: Global, trouble: Trouble, reads: usize, lines: usize) -> Result<(), Fail> {
-    let begun = told_of(alloc, trouble, lines)?;
-    let later = told_after(alloc, trouble, STATEMENT)?;
+    let begun = expected_begun(alloc, trouble, lines)?;
+    let later = expected_after(alloc, trouble, STATEMENT)?;
     let mut desk = desk_after(alloc, reads, trouble)?;
     has_statement(alloc, &mut desk, begun.as_str())?;
     has_statement(alloc, &mut desk, later.as_str())
@@ -156,7 +156,7 @@ fn each_read_of_a_statement_meets_trouble(rt: HostRuntime) -> Result<(), Fail> {
 
 #[test]
 fn a_statement_takes_five_reads(rt: HostRuntime) -> Result<(), Fail> {
-    let wanted = told_after(rt.alloc(), Trouble::OutOfMemory, STATEMENT)?;
+    let wanted = expected_after(rt.alloc(), Trouble::OutOfMemory, STATEMENT)?;
     let mut desk = desk_after(rt.alloc(), READS_OF_A_STATEMENT, Trouble::Lost)?;
     has_statement(rt.alloc(), &mut desk, wanted.as_str())
 }
@@ -169,7 +169,7 @@ fn a_statement_of_nobody_is_refused_before_a_read(rt: HostRuntime) -> Result<(),
     is_same(found.as_str(), "Some(UnknownParticipant)\n")
 }
 
-// Of the report this is told.
+// Of the report this is shown.
 fn has_report(alloc: Global, desk: &mut TestDesk, wanted: &str) -> Result<(), Fail> {
     let found = report(alloc, desk)?;
     is_same(found.as_str(), wanted)
@@ -178,8 +178,8 @@ fn has_report(alloc: Global, desk: &mut TestDesk, wanted: &str) -> Result<(), Fa
 // The read of a report after so many meets this trouble, and nothing is written. Afterwards the desk has failed, or
 // tells the whole report.
 fn is_not_begun(alloc: Global, trouble: Trouble, reads: usize, whole: &str) -> Result<(), Fail> {
-    let nothing = told_of(alloc, trouble, 0)?;
-    let later = told_after(alloc, trouble, whole)?;
+    let nothing = expected_begun(alloc, trouble, 0)?;
+    let later = expected_after(alloc, trouble, whole)?;
     let mut desk = desk_after(alloc, reads, trouble)?;
     has_report(alloc, &mut desk, nothing.as_str())?;
     has_report(alloc, &mut desk, later.as_str())
@@ -196,8 +196,8 @@ fn none_is_begun(alloc: Global, trouble: Trouble, whole: &str) -> Result<(), Fai
 // The whole report, which takes so many reads.
 fn whole_report(alloc: Global) -> Result<String, Fail> {
     let mut desk = desk_after(alloc, READS_OF_A_REPORT, Trouble::Lost)?;
-    let told = report(alloc, &mut desk)?;
-    match told.as_str().strip_prefix("None\n") {
+    let shown = report(alloc, &mut desk)?;
+    match shown.as_str().strip_prefix("None\n") {
         Some(whole) => Ok(String::from_str(alloc, whole)?),
         None => Err(Fail::from("a report that was refused")),
     }
@@ -205,8 +205,8 @@ fn whole_report(alloc: Global) -> Result<String, Fail> {
 
 #[test]
 fn a_report_is_begun_once_all_is_read(rt: HostRuntime) -> Result<(), Fail> {
-    let told = whole_report(rt.alloc())?;
-    let whole = told.as_str();
+    let shown = whole_report(rt.alloc())?;
+    let whole = shown.as_str();
     assert!(rt; whole.starts_with("report 2024-03-04\n"));
     none_is_begun(rt.alloc(), Trouble::Lost, whole)?;
     none_is_begun(rt.alloc(), Trouble::Kept, whole)?;

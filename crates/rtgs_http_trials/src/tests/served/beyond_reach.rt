@@ -6,23 +6,23 @@ use rtgs_http_replies::Reply;
 use std::test::Fail;
 
 #[test]
-fn a_book_that_is_full_is_told(rt: HostRuntime) -> Result<(), Fail> {
+fn a_book_that_is_full_is_answered_so(rt: HostRuntime) -> Result<(), Fail> {
     let alloc = rt.alloc();
-    let told = "{\"code\":8,\"name\":\"NumbersUsedUp\"}";
-    let wanted = whole(alloc, "409 Conflict", "application/json", told)?;
+    let expected = "{\"code\":8,\"name\":\"NumbersUsedUp\"}";
+    let wanted = whole(alloc, "409 Conflict", "application/json", expected)?;
     let reply = refusal_reply(alloc, Refusal::NumbersUsedUp)?;
     assert!(rt; reply.as_bytes() == wanted.as_bytes());
     Ok(())
 }
 
 #[test]
-fn an_answer_that_is_lost_is_told(rt: HostRuntime) -> Result<(), Fail> {
-    let told = "{\"code\":69,\"name\":\"AnswerLost\"}";
+fn an_answer_that_is_lost_is_answered_so(rt: HostRuntime) -> Result<(), Fail> {
+    let expected = "{\"code\":69,\"name\":\"AnswerLost\"}";
     let wanted = whole(
         rt.alloc(),
         "503 Service Unavailable",
         "application/json",
-        told,
+        expected,
     )?;
     let reply = Reply::answer_lost();
     assert_eq!(rt; reply.status().as_u16(), 503);

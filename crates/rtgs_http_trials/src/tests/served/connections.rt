@@ -1,5 +1,5 @@
 //! Connections served one after another.
-use super::super::requests::{OTHER, Request};
+use super::super::requests::{OTHER, WrittenRequest};
 use super::super::test_desk::TestDesk;
 use super::super::{GOOD, OPERATOR, digest};
 use rtgs_book::{Answer, Command, Refusal, WholeAnswer};
@@ -82,8 +82,8 @@ fn one_that_is_not_accepted_counts_as_served(rt: HostRuntime) -> Result<(), Fail
     let mut desk = TestDesk::open(rt.alloc())?;
     let good = Some(GOOD.as_bytes());
     let inputs = [None, good, Some("GET".as_bytes()), good];
-    let told = ["HTTP/1.1 200 OK\r\n", "HTTP/1.1 400 Bad Request\r\n"];
-    assert!(rt; serves(rt.alloc(), &mut desk, &inputs, 3, 0, &told));
+    let statuses = ["HTTP/1.1 200 OK\r\n", "HTTP/1.1 400 Bad Request\r\n"];
+    assert!(rt; serves(rt.alloc(), &mut desk, &inputs, 3, 0, &statuses));
     Ok(())
 }
 
@@ -91,8 +91,8 @@ fn one_that_is_not_accepted_counts_as_served(rt: HostRuntime) -> Result<(), Fail
 fn each_of_forty_is_served(rt: HostRuntime) -> Result<(), Fail> {
     let mut desk = TestDesk::open(rt.alloc())?;
     let inputs = [Some(GOOD.as_bytes()); 40];
-    let told = ["HTTP/1.1 200 OK\r\n"; 40];
-    assert!(rt; serves(rt.alloc(), &mut desk, &inputs, 40, 0, &told));
+    let statuses = ["HTTP/1.1 200 OK\r\n"; 40];
+    assert!(rt; serves(rt.alloc(), &mut desk, &inputs, 40, 0, &statuses));
     Ok(())
 }
 
@@ -101,18 +101,18 @@ fn none_is_served_once_the_desk_has_failed(rt: HostRuntime) -> Result<(), Fail> 
     // the order is looked up, and then kept
     let mut desk = TestDesk::troubled(rt.alloc(), 1, Trouble::Lost)?;
     let good = Some(GOOD.as_bytes());
-    let told = ["HTTP/1.1 503 Service Unavailable\r\n"];
-    assert!(rt; serves(rt.alloc(), &mut desk, &[good, good], 2, 1, &told));
+    let statuses = ["HTTP/1.1 503 Service Unavailable\r\n"];
+    assert!(rt; serves(rt.alloc(), &mut desk, &[good, good], 2, 1, &statuses));
     Ok(())
 }
 
 // The bytes of a request.
 fn sent(alloc: Global, asked: &str) -> Result<String, Fail> {
-    Request::read(asked)?.input(alloc)
+    WrittenRequest::read(asked)?.input(alloc)
 }
 
-// Whether an operator with this key is told so of a resolution that bears the usual key, and of one that bears the
-// other.
+// Whether an operator with this key is answered so to a resolution that carries the usual key, and to one that carries
+// the other.
 fn operates(alloc: Global, key: &str, beginnings: &[&str]) -> Result<bool, Fail> {
     let mut desk = TestDesk::open(alloc)?;
     desk.operator = digest(key.as_bytes())?;
@@ -123,7 +123,7 @@ fn operates(alloc: Global, key: &str, beginnings: &[&str]) -> Result<bool, Fail>
 }
 
 #[test]
-fn the_operator_bears_the_key_that_was_given(rt: HostRuntime) -> Result<(), Fail> {
+fn the_operator_has_the_key_that_was_given(rt: HostRuntime) -> Result<(), Fail> {
     let taken = "HTTP/1.1 200 OK\r\n";
     let refused = "HTTP/1.1 403 Forbidden\r\n";
     assert!(rt; operates(rt.alloc(), OPERATOR, &[taken, refused])?);
@@ -148,8 +148,8 @@ fn takes_ring(alloc: Global, desk: &mut TestDesk) -> Result<bool, Fail> {
         Some(second.as_bytes()),
         Some(third.as_bytes()),
     ];
-    let told = ["HTTP/1.1 200 OK\r\n"; 3];
-    Ok(serves(alloc, desk, &inputs, 3, 0, &told))
+    let statuses = ["HTTP/1.1 200 OK\r\n"; 3];
+    Ok(serves(alloc, desk, &inputs, 3, 0, &statuses))
 }
 
 // Whether a resolution that was asked for settled three orders.

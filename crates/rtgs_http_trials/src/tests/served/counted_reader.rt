@@ -1,4 +1,4 @@
-//! A reader that counts how often it is asked, and fails when it is told to.
+//! A reader that counts how often it is asked, and fails when a test wants it.
 use std::io;
 use std::io::{ErrorKind, Read};
 

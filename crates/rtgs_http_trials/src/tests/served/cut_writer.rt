@@ -1,4 +1,4 @@
-//! A writer that takes little at a time, and fails when it is told to.
+//! A writer that takes little at a time, and fails when a test wants it.
 use std::alloc::Global;
 use std::io;
 use std::io::{ErrorKind, Write};

@@ -1,4 +1,4 @@
-//! Days, told request by request.
+//! Days, request by request.
 use super::super::test_desk::{follows, follows_after};
 use std::test::Fail;
 

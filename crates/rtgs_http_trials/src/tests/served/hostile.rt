@@ -67,10 +67,15 @@ ALFA GET /orders/A-1
 -> 404 Not Found {"code":9,"name":"UnknownOrder"}
 "#;
 
-// So many bytes of no line are told this.
-fn is_told(alloc: Global, desk: &mut TestDesk, count: usize, told: &str) -> Result<(), Fail> {
+// So many bytes of no line are answered this.
+fn is_answered(
+    alloc: Global,
+    desk: &mut TestDesk,
+    count: usize,
+    expected: &str,
+) -> Result<(), Fail> {
     let input = "A".repeat(alloc, count)?;
-    desk.tells(input.as_str(), told)
+    desk.tells(input.as_str(), expected)
 }
 
 #[test]
@@ -78,9 +83,9 @@ fn heads_without_an_end(rt: HostRuntime) -> Result<(), Fail> {
     let truncated = r#"400 Bad Request {"code":64,"name":"Truncated"}"#;
     let too_long = r#"413 Content Too Large {"code":61,"name":"HeadTooLong"}"#;
     let mut desk = TestDesk::open(rt.alloc())?;
-    is_told(rt.alloc(), &mut desk, 0, truncated)?;
-    is_told(rt.alloc(), &mut desk, 8191, truncated)?;
-    is_told(rt.alloc(), &mut desk, 8192, too_long)
+    is_answered(rt.alloc(), &mut desk, 0, truncated)?;
+    is_answered(rt.alloc(), &mut desk, 8191, truncated)?;
+    is_answered(rt.alloc(), &mut desk, 8192, too_long)
 }
 
 #[test]

@@ -53,7 +53,7 @@ fn none_is_taken(
 ) -> Result<(), Fail> {
     for route in routes.trim().split("\n\n") {
         let asked = format!(in alloc; "{caller} {route}")?;
-        desk.is_told(asked.as_str(), NO_KEY)?;
+        desk.is_answered(asked.as_str(), NO_KEY)?;
     }
     Ok(())
 }

@@ -18,11 +18,11 @@ fn a_body_has_65536_bytes_at_most(rt: HostRuntime) -> Result<(), Fail> {
     // 18 bytes say the caller, the method and the target
     assert_eq!(rt; (most.len(), more.len()), (18 + 65536, 18 + 65537));
     let mut desk = TestDesk::open(rt.alloc())?;
-    desk.is_told(
+    desk.is_answered(
         more.as_str(),
         r#"413 Content Too Large {"code":63,"name":"BodyTooLong"}"#,
     )?;
-    desk.is_told(
+    desk.is_answered(
         most.as_str(),
         r#"200 OK {"answer":"queued","number":1,"place":1}"#,
     )
@@ -30,8 +30,8 @@ fn a_body_has_65536_bytes_at_most(rt: HostRuntime) -> Result<(), Fail> {
 
 const BAD_JSON: &str = r#"400 Bad Request {"code":65,"name":"BadJson"}"#;
 
-// ALFA's order whose body of 40960 bytes begins like this, and then has this part so many times, is told that it is no
-// JSON.
+// ALFA's order whose body of 40960 bytes begins like this, and then has this part so many times, is answered that it is
+// no JSON.
 fn is_bad(
     alloc: Global,
     desk: &mut TestDesk,
@@ -44,7 +44,7 @@ fn is_bad(
     if asked.len() != 18 + 40960 {
         return Err(Fail::from("another length"));
     }
-    desk.is_told(asked.as_str(), BAD_JSON)
+    desk.is_answered(asked.as_str(), BAD_JSON)
 }
 
 // A list, a text and an object that do not end.
@@ -73,7 +73,7 @@ fn a_long_body_may_have_wrong_fields(rt: HostRuntime) -> Result<(), Fail> {
     let asked = with_keys(rt.alloc(), 4000)?;
     assert_eq!(rt; asked.len(), 18 + 40014);
     let mut desk = TestDesk::open(rt.alloc())?;
-    desk.is_told(
+    desk.is_answered(
         asked.as_str(),
         r#"400 Bad Request {"code":66,"name":"WrongFields"}"#,
     )

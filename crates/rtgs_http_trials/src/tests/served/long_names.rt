@@ -53,7 +53,7 @@ marks              0
 "#;
 
 #[test]
-fn the_longest_names_are_told_whole(rt: HostRuntime) -> Result<(), Fail> {
+fn the_longest_names_are_shown_whole(rt: HostRuntime) -> Result<(), Fail> {
     let mut desk = TestDesk::open(rt.alloc())?;
     desk.add(
         "ZETA1234",

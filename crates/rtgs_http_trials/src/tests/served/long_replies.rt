@@ -1,4 +1,4 @@
-//! Replies of more than 20 KB, to the byte: they are told, and no lack of memory is.
+//! Replies of more than 20 KB, to the byte: they are sent, and no lack of memory is.
 use super::super::test_desk::TestDesk;
 use super::queues::{file_of, results_of};
 use std::alloc::Global;
@@ -9,7 +9,7 @@ fn desk_with(alloc: Global, count: u32) -> Result<TestDesk, Fail> {
     let file = file_of(alloc, count)?;
     let results = results_of(alloc, count)?;
     let mut desk = TestDesk::open(alloc)?;
-    desk.is_told(file.as_str(), results.as_str())?;
+    desk.is_answered(file.as_str(), results.as_str())?;
     Ok(desk)
 }
 
@@ -28,12 +28,12 @@ fn queue_of(alloc: Global, count: u32) -> Result<String, Fail> {
 }
 
 #[test]
-fn a_queue_of_500_orders_is_told(rt: HostRuntime) -> Result<(), Fail> {
+fn a_queue_of_500_orders_is_shown(rt: HostRuntime) -> Result<(), Fail> {
     let queue = queue_of(rt.alloc(), 500)?;
     // 7 bytes say the status
     assert_eq!(rt; queue.len(), 7 + 34688);
     let mut desk = desk_with(rt.alloc(), 500)?;
-    desk.is_told("ALFA GET /queue", queue.as_str())
+    desk.is_answered("ALFA GET /queue", queue.as_str())
 }
 
 // The sums of a day on which nothing was posted or has settled. The line of the last one ends in the reply.
@@ -57,10 +57,10 @@ fn statement_of(alloc: Global, count: u32) -> Result<String, Fail> {
 }
 
 #[test]
-fn a_statement_of_500_orders_is_told(rt: HostRuntime) -> Result<(), Fail> {
+fn a_statement_of_500_orders_is_shown(rt: HostRuntime) -> Result<(), Fail> {
     let statement = statement_of(rt.alloc(), 500)?;
     // 18 bytes say the status and the type, and the last line has no end
     assert_eq!(rt; statement.len(), 18 + 39194 - 1);
     let mut desk = desk_with(rt.alloc(), 500)?;
-    desk.is_told("ALFA GET /statements/2024-03-04", statement.as_str())
+    desk.is_answered("ALFA GET /statements/2024-03-04", statement.as_str())
 }

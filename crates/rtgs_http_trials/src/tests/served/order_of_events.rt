@@ -1,5 +1,5 @@
 //! The last commit of a request has returned before the first byte of the reply is written.
-use super::super::requests::Request;
+use super::super::requests::WrittenRequest;
 use super::super::test_desk::begin_day;
 use super::super::{OPERATOR, digest};
 use super::watching_writer::WatchingWriter;
@@ -19,7 +19,7 @@ fn serve<K: Keeper>(
     asked: &str,
     writer: &mut WatchingWriter<'_>,
 ) -> Result<(), Fail> {
-    let input = Request::read(asked)?.input(alloc)?;
+    let input = WrittenRequest::read(asked)?.input(alloc)?;
     let operator = digest(OPERATOR.as_bytes())?;
     let mut reader = input.as_bytes();
     let _ = serve_one(alloc, &mut reader, writer, desk, &operator);

@@ -115,11 +115,11 @@ pub fn results_of(alloc: Global, count: u32) -> Result<String, Fail> {
 fn a_file_has_500_rows_at_most(rt: HostRuntime) -> Result<(), Fail> {
     let file = file_of(rt.alloc(), 501)?;
     let mut desk = TestDesk::open(rt.alloc())?;
-    desk.is_told(
+    desk.is_answered(
         file.as_str(),
         r#"400 Bad Request {"code":42,"name":"BadCount"}"#,
     )?;
-    desk.is_told("ALFA GET /queue", r#"200 OK {"orders":[]}"#)
+    desk.is_answered("ALFA GET /queue", r#"200 OK {"orders":[]}"#)
 }
 
 // What a queue of 500 orders takes.
@@ -143,6 +143,6 @@ fn a_queue_has_500_orders_at_most(rt: HostRuntime) -> Result<(), Fail> {
     let file = file_of(rt.alloc(), 500)?;
     let results = results_of(rt.alloc(), 500)?;
     let mut desk = TestDesk::open(rt.alloc())?;
-    desk.is_told(file.as_str(), results.as_str())?;
+    desk.is_answered(file.as_str(), results.as_str())?;
     desk.follow(FULL)
 }

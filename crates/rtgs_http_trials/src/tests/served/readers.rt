@@ -1,6 +1,6 @@
 //! Readers that fail, and how often a reader is asked.
 use super::super::GOOD;
-use super::super::requests::Request;
+use super::super::requests::WrittenRequest;
 use super::super::test_desk::{TestDesk, follows};
 use super::counted_reader::CountedReader;
 use super::lengths::spaced;
@@ -41,7 +41,7 @@ fn a_reader_that_fails_gives_no_command(rt: HostRuntime) -> Result<(), Fail> {
         let replied = is_replied_after(rt.alloc(), &mut desk, reads);
         assert!(rt; replied.is_none(), "{replied:?} after {reads} reads");
     }
-    desk.is_told(
+    desk.is_answered(
         "ALFA GET /orders/A-1",
         r#"404 Not Found {"code":9,"name":"UnknownOrder"}"#,
     )?;
@@ -51,7 +51,7 @@ fn a_reader_that_fails_gives_no_command(rt: HostRuntime) -> Result<(), Fail> {
 }
 
 // The input has this reply after so many reads, of so many bytes each at most, and none is made after them.
-fn is_told_after(
+fn is_answered_after(
     alloc: Global,
     input: &str,
     most: usize,
@@ -73,7 +73,7 @@ fn is_told_after(
 
 // So many reads are enough for the whole of the good request.
 fn is_enough(alloc: Global, most: usize, reads: usize) -> Result<(), Fail> {
-    is_told_after(alloc, GOOD, most, reads, QUEUED)
+    is_answered_after(alloc, GOOD, most, reads, QUEUED)
 }
 
 #[test]
@@ -126,7 +126,7 @@ fn a_second_request_is_not_looked_at(rt: HostRuntime) -> Result<(), Fail> {
     follows(rt.alloc(), TWO)
 }
 
-// A fault that is in the head is told without a read behind the head.
+// A fault that is in the head is answered without a read behind the head.
 #[test]
 fn no_read_follows_a_fault(rt: HostRuntime) -> Result<(), Fail> {
     let head = "POST /nothing HTTP/1.1\r\nContent-Length: 5\r\n\r\n";
@@ -147,9 +147,9 @@ const TOO_LONG: &str =
 #[test]
 fn no_read_follows_a_head_that_is_too_long(rt: HostRuntime) -> Result<(), Fail> {
     let head = "A".repeat(rt.alloc(), 10000)?;
-    is_told_after(rt.alloc(), head.as_str(), usize::MAX, 2, TOO_LONG)?;
-    is_told_after(rt.alloc(), head.as_str(), 3000, 3, TOO_LONG)?;
-    is_told_after(rt.alloc(), head.as_str(), 1, 8192, TOO_LONG)
+    is_answered_after(rt.alloc(), head.as_str(), usize::MAX, 2, TOO_LONG)?;
+    is_answered_after(rt.alloc(), head.as_str(), 3000, 3, TOO_LONG)?;
+    is_answered_after(rt.alloc(), head.as_str(), 1, 8192, TOO_LONG)
 }
 
 // The good request with spaces behind its order, so many that it has this length.
@@ -157,7 +157,7 @@ fn good_of(alloc: Global, length: usize) -> Result<String, Fail> {
     // the length of the body has four digits in place of two
     let shortest = GOOD.len().saturating_add(2);
     let asked = spaced(alloc, length.saturating_sub(shortest))?;
-    let input = Request::read(asked.as_str())?.input(alloc)?;
+    let input = WrittenRequest::read(asked.as_str())?.input(alloc)?;
     if input.len() == length {
         return Ok(input);
     }
@@ -167,7 +167,7 @@ fn good_of(alloc: Global, length: usize) -> Result<String, Fail> {
 // The good request of this length is read in so many reads.
 fn is_read_in(alloc: Global, length: usize, reads: usize) -> Result<(), Fail> {
     let input = good_of(alloc, length)?;
-    is_told_after(alloc, input.as_str(), usize::MAX, reads, QUEUED)
+    is_answered_after(alloc, input.as_str(), usize::MAX, reads, QUEUED)
 }
 
 #[test]

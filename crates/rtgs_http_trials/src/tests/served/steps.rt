@@ -1,5 +1,5 @@
 //! The lengths and the contents that each route of a command refuses, and the dates of a day that ends.
-use super::super::requests::Request;
+use super::super::requests::WrittenRequest;
 use super::super::test_desk::{TestDesk, follows};
 use std::alloc::Global;
 use std::test::Fail;
@@ -27,45 +27,45 @@ OPERATOR POST /desk/cutoff {"date":"2024-03-04"}
 OPERATOR POST /desk/close {"date":"2024-03-04"}
 "#;
 
-// Each route's command, with this line of a length or none, is told this.
-fn each_is_told(alloc: Global, length: &str, told: &str) -> Result<(), Fail> {
+// Each route's command, with this line of a length or none, is answered this.
+fn each_is_answered(alloc: Global, length: &str, expected: &str) -> Result<(), Fail> {
     let mut desk = TestDesk::open(alloc)?;
     for command in COMMANDS.trim().split("\n\n") {
-        let input = Request::read(command)?.with_fields(alloc, length)?;
-        desk.tells(input.as_str(), told)?;
+        let input = WrittenRequest::read(command)?.with_fields(alloc, length)?;
+        desk.tells(input.as_str(), expected)?;
     }
     Ok(())
 }
 
 #[test]
 fn no_length_on_each_route(rt: HostRuntime) -> Result<(), Fail> {
-    let told = r#"411 Length Required {"code":62,"name":"NoLength"}"#;
-    each_is_told(rt.alloc(), "", told)
+    let expected = r#"411 Length Required {"code":62,"name":"NoLength"}"#;
+    each_is_answered(rt.alloc(), "", expected)
 }
 
 #[test]
 fn too_long_a_body_on_each_route(rt: HostRuntime) -> Result<(), Fail> {
-    let told = r#"413 Content Too Large {"code":63,"name":"BodyTooLong"}"#;
-    each_is_told(rt.alloc(), "Content-Length: 65537\r\n", told)
+    let expected = r#"413 Content Too Large {"code":63,"name":"BodyTooLong"}"#;
+    each_is_answered(rt.alloc(), "Content-Length: 65537\r\n", expected)
 }
 
 #[test]
 fn a_body_that_ends_early_on_each_route(rt: HostRuntime) -> Result<(), Fail> {
-    let told = r#"400 Bad Request {"code":64,"name":"Truncated"}"#;
-    each_is_told(rt.alloc(), "Content-Length: 1000\r\n", told)
+    let expected = r#"400 Bad Request {"code":64,"name":"Truncated"}"#;
+    each_is_answered(rt.alloc(), "Content-Length: 1000\r\n", expected)
 }
 
-// Each route's command but that of a batch, with this content, is told this.
-fn each_content_is_told(
+// Each route's command but that of a batch, with this content, is answered this.
+fn each_content_is_answered(
     alloc: Global,
     desk: &mut TestDesk,
     content: &str,
-    told: &str,
+    expected: &str,
 ) -> Result<(), Fail> {
     for command in COMMANDS.trim().split("\n\n") {
         if let Some((route, _)) = command.split_once(" {") {
             let asked = format!(in alloc; "{route} {content}")?;
-            desk.is_told(asked.as_str(), told)?;
+            desk.is_answered(asked.as_str(), expected)?;
         }
     }
     Ok(())
@@ -76,9 +76,9 @@ fn contents_of_each_route(rt: HostRuntime) -> Result<(), Fail> {
     let bad_json = r#"400 Bad Request {"code":65,"name":"BadJson"}"#;
     let wrong_fields = r#"400 Bad Request {"code":66,"name":"WrongFields"}"#;
     let mut desk = TestDesk::open(rt.alloc())?;
-    each_content_is_told(rt.alloc(), &mut desk, "[", bad_json)?;
-    each_content_is_told(rt.alloc(), &mut desk, r#"{"amount":1e400}"#, bad_json)?;
-    each_content_is_told(rt.alloc(), &mut desk, "[]", wrong_fields)
+    each_content_is_answered(rt.alloc(), &mut desk, "[", bad_json)?;
+    each_content_is_answered(rt.alloc(), &mut desk, r#"{"amount":1e400}"#, bad_json)?;
+    each_content_is_answered(rt.alloc(), &mut desk, "[]", wrong_fields)
 }
 
 const DATES: &str = r#"

@@ -23,36 +23,41 @@ const FAULT: &str = r#"503 Service Unavailable {"code":91,"name":"StoreFault"}"#
 const FAILED: &str = r#"503 Service Unavailable {"code":92,"name":"Failed"}"#;
 
 // The store fails at the order, and after a restart the same order has this reply.
-fn is_told_after(alloc: Global, calls: usize, trouble: Trouble, reply: &str) -> Result<(), Fail> {
+fn is_answered_after(
+    alloc: Global,
+    calls: usize,
+    trouble: Trouble,
+    reply: &str,
+) -> Result<(), Fail> {
     let mut desk = TestDesk::troubled(alloc, calls, trouble)?;
-    desk.is_told(ORDER, FAULT)?;
-    desk.is_told(ORDER, FAILED)?;
+    desk.is_answered(ORDER, FAULT)?;
+    desk.is_answered(ORDER, FAILED)?;
     let mut desk = desk.restarted()?;
-    desk.is_told(ORDER, reply)
+    desk.is_answered(ORDER, reply)
 }
 
 #[test]
 fn an_order_that_the_store_lost(rt: HostRuntime) -> Result<(), Fail> {
-    is_told_after(rt.alloc(), COMMIT, Trouble::Lost, QUEUED)
+    is_answered_after(rt.alloc(), COMMIT, Trouble::Lost, QUEUED)
 }
 
 #[test]
 fn an_order_that_the_store_kept(rt: HostRuntime) -> Result<(), Fail> {
-    is_told_after(rt.alloc(), COMMIT, Trouble::Kept, REPEATED)
+    is_answered_after(rt.alloc(), COMMIT, Trouble::Kept, REPEATED)
 }
 
 #[test]
 fn an_order_whose_look_up_failed(rt: HostRuntime) -> Result<(), Fail> {
-    is_told_after(rt.alloc(), LOOK_UP, Trouble::Lost, QUEUED)?;
-    is_told_after(rt.alloc(), LOOK_UP, Trouble::Kept, QUEUED)
+    is_answered_after(rt.alloc(), LOOK_UP, Trouble::Lost, QUEUED)?;
+    is_answered_after(rt.alloc(), LOOK_UP, Trouble::Kept, QUEUED)
 }
 
 // Memory is refused once at the order, after so many calls, and not when it comes again.
 fn waits(alloc: Global, calls: usize) -> Result<(), Fail> {
     let mut desk = TestDesk::troubled(alloc, calls, Trouble::OutOfMemory)?;
-    desk.is_told(ORDER, NO_MEMORY)?;
-    desk.is_told(ORDER, QUEUED)?;
-    desk.is_told(ORDER, REPEATED)
+    desk.is_answered(ORDER, NO_MEMORY)?;
+    desk.is_answered(ORDER, QUEUED)?;
+    desk.is_answered(ORDER, REPEATED)
 }
 
 #[test]

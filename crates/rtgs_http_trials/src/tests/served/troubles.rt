@@ -1,4 +1,5 @@
-//! What each command is told where the store fails or memory is refused, and each request once the store has failed.
+//! What each command is answered where the store fails or memory is refused, and each request once the store has
+//! failed.
 use super::super::test_desk::TestDesk;
 use super::steps::COMMANDS;
 use rtgs_tests_desks::Trouble;
@@ -71,7 +72,7 @@ OPERATOR POST /desk/credit {"code":"GAMA","credit":7}
 -> 200 OK {"answer":"credit set","auto":{"count":1,"mark":3,"value":7}}
 "#;
 
-// How many calls of its keeper a desk makes for a command: it looks up what bears the reference, where one is given,
+// How many calls of its keeper a desk makes for a command: it looks up what has the reference, where one is given,
 // and keeps the change.
 fn calls_of(step: &str) -> usize {
     let looks_up = step.starts_with("OPERATOR POST /desk/post ") || step.contains(" POST /orders");
@@ -101,8 +102,8 @@ fn fails_at(alloc: Global, changes: usize, step: &str) -> Result<(), Fail> {
     let (asked, _) = step.split_once("\n-> ").ok_or("a step without a reply")?;
     for call in 0..calls_of(step) {
         let mut desk = desk_before(alloc, changes, call, Trouble::Lost)?;
-        desk.is_told(asked, FAULT)?;
-        desk.is_told(asked, FAILED)?;
+        desk.is_answered(asked, FAULT)?;
+        desk.is_answered(asked, FAILED)?;
     }
     Ok(())
 }
@@ -112,7 +113,7 @@ fn waits_at(alloc: Global, changes: usize, step: &str) -> Result<(), Fail> {
     let (asked, _) = step.split_once("\n-> ").ok_or("a step without a reply")?;
     for call in 0..calls_of(step) {
         let mut desk = desk_before(alloc, changes, call, Trouble::OutOfMemory)?;
-        desk.is_told(asked, NO_MEMORY)?;
+        desk.is_answered(asked, NO_MEMORY)?;
         desk.step(step)?;
     }
     Ok(())
@@ -137,9 +138,9 @@ fn each_command_without_memory_is_done_when_it_comes_again(rt: HostRuntime) -> R
 #[test]
 fn a_failed_desk_says_so_on_each_route(rt: HostRuntime) -> Result<(), Fail> {
     let mut desk = TestDesk::troubled(rt.alloc(), 0, Trouble::Lost)?;
-    desk.is_told(r#"OPERATOR POST /desk/cutoff {"date":"2024-03-04"}"#, FAULT)?;
-    desk.each_is_told(COMMANDS, FAILED)?;
-    desk.each_is_told(READINGS, FAILED)
+    desk.is_answered(r#"OPERATOR POST /desk/cutoff {"date":"2024-03-04"}"#, FAULT)?;
+    desk.each_is_answered(COMMANDS, FAILED)?;
+    desk.each_is_answered(READINGS, FAILED)
 }
 
 // The readings for which the store is read.
@@ -154,8 +155,8 @@ OPERATOR GET /desk/report/2024-03-04
 // The store fails at a reading.
 fn is_not_read(alloc: Global, reading: &str) -> Result<(), Fail> {
     let mut desk = TestDesk::troubled(alloc, 0, Trouble::Lost)?;
-    desk.is_told(reading, FAULT)?;
-    desk.is_told(reading, FAILED)
+    desk.is_answered(reading, FAULT)?;
+    desk.is_answered(reading, FAILED)
 }
 
 #[test]
@@ -167,9 +168,9 @@ fn each_reading_at_which_the_store_fails(rt: HostRuntime) -> Result<(), Fail> {
 }
 
 // Memory is refused at a reading, and a change after it is made.
-fn is_not_told(alloc: Global, reading: &str) -> Result<(), Fail> {
+fn is_not_answered(alloc: Global, reading: &str) -> Result<(), Fail> {
     let mut desk = TestDesk::troubled(alloc, 0, Trouble::OutOfMemory)?;
-    desk.is_told(reading, NO_MEMORY)?;
+    desk.is_answered(reading, NO_MEMORY)?;
     let (change, _) = CHANGES.trim().split_once("\n\n").ok_or("no change")?;
     desk.step(change)
 }
@@ -177,7 +178,7 @@ fn is_not_told(alloc: Global, reading: &str) -> Result<(), Fail> {
 #[test]
 fn each_reading_without_memory_leaves_the_desk(rt: HostRuntime) -> Result<(), Fail> {
     for reading in STORED.trim().split("\n\n") {
-        is_not_told(rt.alloc(), reading)?;
+        is_not_answered(rt.alloc(), reading)?;
     }
     Ok(())
 }

@@ -1,4 +1,4 @@
-//! Writers that take little, fail or take nothing: the order stands, whatever is told of it.
+//! Writers that take little, fail or take nothing: the order stands, whatever is answered to it.
 use super::super::GOOD;
 use super::super::test_desk::TestDesk;
 use super::cut_writer::{CutWriter, MOST};

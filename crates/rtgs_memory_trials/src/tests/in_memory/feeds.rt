@@ -4,7 +4,6 @@ use rtgs_http_feeds::{BodyFeed, BodyStep, HeadFeed, HeadStep};
 use std::alloc::Global;
 use std::test::Fail;
 
-/// A head.
 const HEAD: &[u8] = b"POST /orders HTTP/1.1\r\nContent-Length: 44\r\n\r\n";
 
 /// The first piece of it.
@@ -13,7 +12,6 @@ const HEAD_BEGINS: &[u8] = b"POST /orders HTTP/1.1\r\nContent-Le";
 /// The other piece, of which 12 bytes are the head's.
 const HEAD_ENDS: &[u8] = b"ngth: 44\r\n\r\n{\"amount\":";
 
-/// A body.
 const BODY: &[u8] = b"{\"amount\":100,\"reference\":\"A-1\",\"to\":\"BETA\"}";
 
 /// The first piece of it.

@@ -1,5 +1,5 @@
-//! An order that is accepted, and whose reply finds no memory: it is told that its answer is lost, and when it is sent
-//! again that it was accepted before.
+//! An order that is accepted, and whose reply finds no memory: it is answered that its answer is lost, and when it is
+//! sent again that it was accepted before.
 use super::super::scarce::setting::{KEYS, desk_after, desk_over, opens, posts};
 use super::super::scarce::{
     ANSWER_LOST, Held, OPERATOR, TakingKeeper, in_a_process, is_limited, request_of, same,
@@ -43,8 +43,8 @@ fn served<K: Keeper>(alloc: Global, desk: &mut Desk<K>, request: &String) -> Res
     Ok(written)
 }
 
-// The answer to an order is lost while what its commit took is held. Once that is let go of, it is told to be repeated.
-// The order waits, since its one row gives back less memory, once it is adopted, than a reply needs.
+// The answer to an order is lost while what its commit took is held. Once that is let go of, it is answered as
+// repeated. The order waits, since its one row gives back less memory, once it is adopted, than a reply needs.
 fn is_lost<K: Keeper>(alloc: Global, desk: &mut Desk<K>, held: &Holding) -> Result<(), Fail> {
     let body = "{\"amount\":200,\"reference\":\"A-1\",\"to\":\"BETA\"}";
     let request = request_of(alloc, KEYS[0], "POST /orders", body)?;
@@ -52,8 +52,8 @@ fn is_lost<K: Keeper>(alloc: Global, desk: &mut Desk<K>, held: &Holding) -> Resu
     free(held)?;
     let wanted = std::str::from_utf8(ANSWER_LOST)?;
     same(alloc, std::str::from_utf8(lost.as_slice())?, wanted)?;
-    let told = served(alloc, desk, &request)?;
-    same(alloc, std::str::from_utf8(told.as_slice())?, REPEATED)
+    let reply = served(alloc, desk, &request)?;
+    same(alloc, std::str::from_utf8(reply.as_slice())?, REPEATED)
 }
 
 #[test]

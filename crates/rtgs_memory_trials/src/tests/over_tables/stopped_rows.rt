@@ -123,7 +123,7 @@ where
     seen_of(alloc, &mut desk)
 }
 
-// How many rows are answered with so many small blocks of memory. Where the next one is refused, what is told and seen
+// How many rows are answered with so many small blocks of memory. Where the next one is refused, what is answered and seen
 // then, and when the rows are sent again, is as it should be.
 fn answered<S: Store>(
     alloc: Global,

@@ -12,16 +12,15 @@ use rtgs_statements::{BookTextFault, write_report, write_statement};
 use std::alloc::Global;
 use std::test::Fail;
 
-/// What is asked.
 #[derive(Clone, Copy)]
 pub enum Question {
     Reading(Reading),
     CodeOf(KeyDigest),
 }
 
-/// What is told.
+/// What is answered.
 #[derive(Debug, Drop)]
-pub enum Told {
+pub enum ReadingAnswer {
     Account(Result<AccountReading, Refusal>),
     Accounts(Result<Vec<AccountReading>, Refusal>),
     Queue(Result<Vec<Order>, Refusal>),
@@ -30,17 +29,17 @@ pub enum Told {
     CodeOf(Result<Option<Code>, Refusal>),
 }
 
-impl Told {
-    // Why it is not told.
+impl ReadingAnswer {
+    // Why it is not answered.
     fn refusal(&self) -> Option<Refusal> {
         match self {
-            Told::Account(Err(refusal))
-            | Told::Accounts(Err(refusal))
-            | Told::Queue(Err(refusal))
-            | Told::Order(Err(refusal))
-            | Told::Text(Err(BookTextFault::Refused(refusal)), _)
-            | Told::CodeOf(Err(refusal)) => Some(*refusal),
-            Told::Text(Err(BookTextFault::Text(TextFault::OutOfMemory)), _) => {
+            ReadingAnswer::Account(Err(refusal))
+            | ReadingAnswer::Accounts(Err(refusal))
+            | ReadingAnswer::Queue(Err(refusal))
+            | ReadingAnswer::Order(Err(refusal))
+            | ReadingAnswer::Text(Err(BookTextFault::Refused(refusal)), _)
+            | ReadingAnswer::CodeOf(Err(refusal)) => Some(*refusal),
+            ReadingAnswer::Text(Err(BookTextFault::Text(TextFault::OutOfMemory)), _) => {
                 Some(Refusal::OutOfMemory)
             }
             _ => None,
@@ -61,20 +60,20 @@ where
 {
     type State = Desk<S::Kept>;
 
-    type Answer = Told;
+    type Answer = ReadingAnswer;
 
     fn begin(&self, alloc: Global) -> Result<Desk<S::Kept>, Fail> {
         desk_after(alloc, self.store.keeper(alloc)?, &day()?)
     }
 
-    fn call(&self, alloc: Global, desk: &mut Desk<S::Kept>) -> Told {
+    fn call(&self, alloc: Global, desk: &mut Desk<S::Kept>) -> ReadingAnswer {
         match self.question {
-            Question::CodeOf(digest) => Told::CodeOf(desk.code_of(&digest)),
+            Question::CodeOf(digest) => ReadingAnswer::CodeOf(desk.code_of(&digest)),
             Question::Reading(reading) => answered(alloc, desk, reading),
         }
     }
 
-    fn outcome(&self, answer: &Told) -> Outcome {
+    fn outcome(&self, answer: &ReadingAnswer) -> Outcome {
         match answer.refusal() {
             Some(Refusal::OutOfMemory) => Outcome::Refused,
             Some(Refusal::StoreFault) if self.store.may_fail() => Outcome::Faulted,
@@ -93,20 +92,22 @@ where
 }
 
 // What the desk tells.
-fn answered<K: Keeper>(alloc: Global, desk: &mut Desk<K>, reading: Reading) -> Told {
+fn answered<K: Keeper>(alloc: Global, desk: &mut Desk<K>, reading: Reading) -> ReadingAnswer {
     let mut page = Page::new();
     match reading {
-        Reading::Account { code } => Told::Account(desk.account(&code)),
-        Reading::Accounts => Told::Accounts(desk.accounts()),
-        Reading::Queue { code } => Told::Queue(desk.queue_of(&code)),
-        Reading::Order { sender, reference } => Told::Order(desk.order_of(&sender, &reference)),
+        Reading::Account { code } => ReadingAnswer::Account(desk.account(&code)),
+        Reading::Accounts => ReadingAnswer::Accounts(desk.accounts()),
+        Reading::Queue { code } => ReadingAnswer::Queue(desk.queue_of(&code)),
+        Reading::Order { sender, reference } => ReadingAnswer::Order(desk.order_of(
+            &sender, &reference,
+        )),
         Reading::Statement { code, date } => {
             let written = write_statement(alloc, &mut page, desk, &code, date);
-            Told::Text(written, page)
+            ReadingAnswer::Text(written, page)
         }
         Reading::Report { date } => {
             let written = write_report(alloc, &mut page, desk, date);
-            Told::Text(written, page)
+            ReadingAnswer::Text(written, page)
         }
     }
 }

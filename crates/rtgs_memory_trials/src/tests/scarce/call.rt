@@ -10,8 +10,8 @@ pub enum Outcome {
     Ample,
     /// It is refused for lack of memory (90), and nothing has changed.
     Refused,
-    /// The store has failed (91). Its state is the one before or the one after. Each call over tables may be told so,
-    /// and not only where it commits or rolls back.
+    /// The store has failed (91). Its state is the one before or the one after. Each call over tables may be answered
+    /// so, and not only where it commits or rolls back.
     Faulted,
     /// All is done, and the answer is lost for lack of memory (69).
     Lost,
@@ -30,7 +30,6 @@ pub trait Call {
     /// The state from which it is called.
     fn begin(&self, alloc: Global) -> Result<Self::State, Fail>;
 
-    /// The call itself.
     fn call(&self, alloc: Global, state: &mut Self::State) -> Self::Answer;
 
     /// What an answer comes to that is not the one with ample memory.

@@ -122,7 +122,7 @@ fn add_arguments(rt: &HostRuntime, shell: &mut Command, name: &str) -> Result<()
     Ok(())
 }
 
-// What the test is told by its environment.
+// What the environment says to the test.
 fn add_variables(shell: &mut Command) -> Result<(), Fail> {
     shell.env(UNDER_A_LIMIT, "1")?;
     shell.env("GLIBC_TUNABLES", TUNABLES)?;

@@ -17,7 +17,7 @@ pub struct Opens<'a, S> {
 
 /// A keeper, or the desk that is opened over it.
 #[derive(Drop)]
-pub enum Book<K: Keeper + Drop> {
+pub enum KeeperOrDesk<K: Keeper + Drop> {
     Closed(K),
     Open(Desk<K>),
     /// While it is opened.
@@ -28,28 +28,28 @@ impl<S: Store> Call for Opens<'_, S>
 where
     S::Kept: Keeper + Drop,
 {
-    type State = Book<S::Kept>;
+    type State = KeeperOrDesk<S::Kept>;
 
     type Answer = Option<Fault>;
 
-    fn begin(&self, alloc: Global) -> Result<Book<S::Kept>, Fail> {
+    fn begin(&self, alloc: Global) -> Result<KeeperOrDesk<S::Kept>, Fail> {
         let desk = desk_after(alloc, self.store.keeper(alloc)?, self.before)?;
-        Ok(Book::Closed(desk.into_keeper()))
+        Ok(KeeperOrDesk::Closed(desk.into_keeper()))
     }
 
-    fn call(&self, alloc: Global, book: &mut Book<S::Kept>) -> Option<Fault> {
-        let keeper = match std::mem::replace(book, Book::Between) {
-            Book::Closed(keeper) => keeper,
-            Book::Open(desk) => desk.into_keeper(),
-            Book::Between => return None,
+    fn call(&self, alloc: Global, book: &mut KeeperOrDesk<S::Kept>) -> Option<Fault> {
+        let keeper = match std::mem::replace(book, KeeperOrDesk::Between) {
+            KeeperOrDesk::Closed(keeper) => keeper,
+            KeeperOrDesk::Open(desk) => desk.into_keeper(),
+            KeeperOrDesk::Between => return None,
         };
         match Desk::open(alloc, keeper) {
             Ok(desk) => {
-                *book = Book::Open(desk);
+                *book = KeeperOrDesk::Open(desk);
                 None
             }
             Err((fault, keeper)) => {
-                *book = Book::Closed(keeper);
+                *book = KeeperOrDesk::Closed(keeper);
                 Some(fault)
             }
         }
@@ -63,20 +63,24 @@ where
         }
     }
 
-    fn reopened(&self, alloc: Global, book: Book<S::Kept>) -> Result<Book<S::Kept>, Fail> {
+    fn reopened(
+        &self,
+        alloc: Global,
+        book: KeeperOrDesk<S::Kept>,
+    ) -> Result<KeeperOrDesk<S::Kept>, Fail> {
         let keeper = match book {
-            Book::Closed(keeper) => keeper,
-            Book::Open(desk) => desk.into_keeper(),
-            Book::Between => return Err(Fail::from("a keeper was lost")),
+            KeeperOrDesk::Closed(keeper) => keeper,
+            KeeperOrDesk::Open(desk) => desk.into_keeper(),
+            KeeperOrDesk::Between => return Err(Fail::from("a keeper was lost")),
         };
-        Ok(Book::Closed(self.store.restarted(alloc, keeper)?))
+        Ok(KeeperOrDesk::Closed(self.store.restarted(alloc, keeper)?))
     }
 
-    fn seen(&self, alloc: Global, book: &mut Book<S::Kept>) -> Result<String, Fail> {
+    fn seen(&self, alloc: Global, book: &mut KeeperOrDesk<S::Kept>) -> Result<String, Fail> {
         match book {
-            Book::Open(desk) => seen_of(alloc, desk),
-            Book::Closed(_) => Ok(String::from_str(alloc, "closed")?),
-            Book::Between => Err(Fail::from("a keeper was lost")),
+            KeeperOrDesk::Open(desk) => seen_of(alloc, desk),
+            KeeperOrDesk::Closed(_) => Ok(String::from_str(alloc, "closed")?),
+            KeeperOrDesk::Between => Err(Fail::from("a keeper was lost")),
         }
     }
 }

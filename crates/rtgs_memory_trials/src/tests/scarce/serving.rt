@@ -13,7 +13,6 @@ use std::alloc::Global;
 use std::fmt::Write;
 use std::test::Fail;
 
-/// The operator's key.
 pub const OPERATOR: &str = "0000000000000000000000000000000f";
 
 /// What no reply here is longer than.
@@ -127,9 +126,9 @@ pub struct Server<K: Keeper + Drop> {
     room: Vec<u8>,
 }
 
-/// The status that is told, and the bytes that are written.
+/// The status of the reply, and the bytes that are written.
 #[derive(Debug, Drop)]
-pub struct Told {
+pub struct ServedReply {
     status: Option<u16>,
     written: Vec<u8>,
 }
@@ -140,7 +139,7 @@ where
 {
     type State = Server<S::Kept>;
 
-    type Answer = Told;
+    type Answer = ServedReply;
 
     fn begin(&self, alloc: Global) -> Result<Server<S::Kept>, Fail> {
         Ok(Server {
@@ -149,7 +148,7 @@ where
         })
     }
 
-    fn call(&self, alloc: Global, server: &mut Server<S::Kept>) -> Told {
+    fn call(&self, alloc: Global, server: &mut Server<S::Kept>) -> ServedReply {
         let mut reader = self.request;
         let mut written = std::mem::replace(&mut server.room, Vec::new(alloc));
         let desk = &mut server.desk;
@@ -158,12 +157,12 @@ where
             Served::Answered(status) => Some(status.as_u16()),
             _ => None,
         };
-        Told { status, written }
+        ServedReply { status, written }
     }
 
-    fn outcome(&self, told: &Told) -> Outcome {
-        let written = told.written.as_slice();
-        match told.status {
+    fn outcome(&self, reply: &ServedReply) -> Outcome {
+        let written = reply.written.as_slice();
+        match reply.status {
             Some(503) if written == OUT_OF_MEMORY => Outcome::Refused,
             Some(503) if written == ANSWER_LOST && self.may_stop() => Outcome::Stopped,
             Some(503) if written == ANSWER_LOST => Outcome::Lost,
@@ -186,8 +185,8 @@ where
         seen_of(alloc, &mut server.desk)
     }
 
-    fn parts(&self, alloc: Global, told: &Told) -> Result<Vec<String>, Fail> {
-        let written = told.written.as_slice();
+    fn parts(&self, alloc: Global, reply: &ServedReply) -> Result<Vec<String>, Fail> {
+        let written = reply.written.as_slice();
         if self.rows.is_empty() {
             return Ok(Vec::new(alloc));
         }

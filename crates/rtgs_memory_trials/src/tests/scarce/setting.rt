@@ -65,7 +65,6 @@ pub fn posts(participant: &str, name: &str, cents: i64) -> Result<Command, Fail>
     })
 }
 
-/// Opens Monday.
 pub fn opens() -> Result<Command, Fail> {
     opens_on(MONDAY, false)
 }
@@ -135,7 +134,6 @@ pub fn automatic_day() -> Result<[Command; 5], Fail> {
     ])
 }
 
-/// A desk over a keeper.
 pub fn desk_over<K: Keeper + Drop>(alloc: Global, keeper: K) -> Result<Desk<K>, Fail> {
     match Desk::open(alloc, keeper) {
         Ok(desk) => Ok(desk),

@@ -39,7 +39,6 @@ impl Worked {
         })
     }
 
-    /// The day is opened.
     pub fn open_day(alloc: Global) -> Result<Worked, Fail> {
         Ok(Worked {
             before: Vec::new(alloc),

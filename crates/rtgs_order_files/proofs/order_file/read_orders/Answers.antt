@@ -19,11 +19,11 @@ returns c =
     let e = c.read_rows.ensures in
     let items = λ (v : Vec OrderRow Global). v.items in
     let under = sym c.records_of-records.ensures.left ∙ c.in_ok-columns.ensures.taken in
-    let told = of_under items c.args.bytes.now c.in_ok-columns.columns (left_of c.take_header.new.records)
+    let read = of_under items c.args.bytes.now c.in_ok-columns.columns (left_of c.take_header.new.records)
     c.read_rows.result under e.rows e.fault in
     record {
-      rows = told.0;
-      fault = told.1;
-      taken = taken c.dates_have_distinct_texts.ensures items c.args.bytes.now c.read_rows.result told.0 told.1;
-      refused = refused items c.args.bytes.now c.read_rows.result told.0 told.1;
+      rows = read.0;
+      fault = read.1;
+      taken = taken c.dates_have_distinct_texts.ensures items c.args.bytes.now c.read_rows.result read.0 read.1;
+      refused = refused items c.args.bytes.now c.read_rows.result read.0 read.1;
     }

@@ -3,7 +3,7 @@ use Rattle.std.proofs.lemmas.List.{take_more}
 use Rattle.std.proofs.lemmas.Grind.{common_steps}
 use Rattle.std.proofs.lemmas.Result.{err_from_is_err_and}
 use Rattle.rtgs_promises.proofs.Headlines.{headline}
-use Rattle.rtgs_promises.proofs.Lives.{at_first, one_more, as_told, all_given, ends_early}
+use Rattle.rtgs_promises.proofs.Lives.{at_first, one_more, as_counted, all_given, ends_early}
 use Rattle.rtgs_promises.proofs.headline.live.Goals as goal
 
 pub loop-visit-init : goal.loop-visit-init
@@ -11,7 +11,7 @@ loop-visit-init g c =
     let it = c.in_ok-said.ensures in
     let none : c.in_ok-said.said.items ≡ [] = it.none.0 in
     record {
-      told = rw none (search rules);
+      counted = rw none (search rules);
       room = it.none.1;
       so_far = rw none (at_first _ _ _ _ it.honest (λ clean start held. it.held clean held.0 start held.1));
     }
@@ -27,7 +27,7 @@ loop-visit-preserved g c =
     take_more sessions at c.visit-item.result c.loop-visit-test.true
     ∙ ap (λ x. take at sessions ++ x ∷ []) (sym c.visit-item.is) in
     record {
-      told = grind (arith, common_steps, c.push_reserved.ensures.items, i.told);
+      counted = grind (arith, common_steps, c.push_reserved.ensures.items, i.counted);
       room = grind (arith, common_steps, c.push_reserved.ensures.capacity, i.room);
       so_far = record {
         honest = λ clean. i.so_far.honest (ran.honest (found.honest clean));
@@ -48,36 +48,36 @@ loop-visit-preserved g c =
 
 pub returns-in_err-said-clause-ended : goal.returns-in_err-said-clause-ended
 returns-in_err-said-clause-ended g c =
-    let told_on = err_from_is_err_and c.from_residual.result c.from_residual.ensures.1 in
-    rw (told_on.1, told_on.2) (λ clean is_open start tables calm.
+    let passed_on = err_from_is_err_and c.from_residual.result c.from_residual.ensures.1 in
+    rw (passed_on.1, passed_on.2) (λ clean is_open start tables calm.
     c.in_err-said.ensures.ended clean is_open start tables calm _)
 
 pub returns-in_err-said-clause-back : goal.returns-in_err-said-clause-back
 returns-in_err-said-clause-back g c =
-    let told_on = err_from_is_err_and c.from_residual.result c.from_residual.ensures.1 in
-    rw (told_on.1, told_on.2) c.in_err-said.ensures.back
+    let passed_on = err_from_is_err_and c.from_residual.result c.from_residual.ensures.1 in
+    rw (passed_on.1, passed_on.2) c.in_err-said.ensures.back
 
 pub returns-in-Err-clause-ended : goal.returns-in-Err-clause-ended
 returns-in-Err-clause-ended g c clean is_open start tables calm =
     let i = c.loop-visit.invariant in
     let same = c.in-Err.ensures.err in
-    let so = i.so_far.lived (rw same at (c.given_up.ensures.honest clean)) start (is_open, tables) in
+    let so = i.so_far.lived (rw same at (c.abandoned.ensures.honest clean)) start (is_open, tables) in
     ends_early (record {
       run = c.life_is_a_run.ensures.run;
       stands = c.life_is_a_run.ensures.stands;
       calm = c.life_is_a_run.ensures.calm;
       resolutions = c.each_resolution_settles_the_greatest_choice.ensures.each;
       in_time = c.nothing_settles_early.ensures.sound;
-    }) start _ _ _ (g.S.Store.recovers c.given_up.result) tables.2.sound calm tt (λ trees may. (
+    }) start _ _ _ (g.S.Store.recovers c.abandoned.result) tables.2.sound calm tt (λ trees may. (
       so.0,
-      c.given_up.ensures.tables clean so.0 (rw same so.1) trees may,
-      as_told _ _ start so.0 c.args.sessions.now c.loop-visit.said.items c.loop-visit.visit-index i.told so.2,
+      c.abandoned.ensures.tables clean so.0 (rw same so.1) trees may,
+      as_counted _ _ start so.0 c.args.sessions.now c.loop-visit.said.items c.loop-visit.visit-index i.counted so.2,
     ))
 
 pub returns-in-Err-clause-back : goal.returns-in-Err-clause-back
 returns-in-Err-clause-back g c clean =
     let same = c.in-Err.ensures.err in
-    c.loop-visit.invariant.so_far.honest (rw same at (c.given_up.ensures.honest clean))
+    c.loop-visit.invariant.so_far.honest (rw same at (c.abandoned.ensures.honest clean))
 
 pub returns-in-Err-found_again-clause-ended : goal.returns-in-Err-found_again-clause-ended
 returns-in-Err-found_again-clause-ended g c clean is_open start tables calm =
@@ -91,8 +91,8 @@ returns-in-Err-found_again-clause-ended g c clean is_open start tables calm =
     let taken : take (at + 1) sessions ≡ take at sessions ++ c.visit-item.result ∷ [] =
     take_more sessions at c.visit-item.result c.loop-visit-test.true
     ∙ ap (λ x. take at sessions ++ x ∷ []) (sym c.visit-item.is) in
-    let told : length c.push_reserved.new.self.items ≡ at + 1 =
-    grind (arith, common_steps, c.push_reserved.ensures.items, i.told) in
+    let counted : length c.push_reserved.new.self.items ≡ at + 1 =
+    grind (arith, common_steps, c.push_reserved.ensures.items, i.counted) in
     ends_early (record {
       run = c.life_is_a_run.ensures.run;
       stands = c.life_is_a_run.ensures.stands;
@@ -111,7 +111,7 @@ returns-in-Err-found_again-clause-ended g c clean is_open start tables calm =
         records = left.records;
         money = left.adds_up;
       },
-      as_told _ _ start left.found sessions c.push_reserved.new.self.items (at + 1) told
+      as_counted _ _ start left.found sessions c.push_reserved.new.self.items (at + 1) counted
           (one_more _ _ start so.0 left.found (take at sessions) (take (at + 1) sessions) c.loop-visit.said.items
           c.push_reserved.new.self.items c.visit-item.result c.in-Ok.replies c.as_slice.result.now
           c.as_slice.ensures.value taken c.push_reserved.ensures.items so.2 left.session),

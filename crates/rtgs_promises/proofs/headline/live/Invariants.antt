@@ -12,7 +12,7 @@ invariant-loop-visit g l =
     let first = state g.S.Store l.fn.conn in
     let k = keeper.ghosts g.row.S g.S.Alter g.S.Alter-dict g.S.Store g.S.Store-dict g.S.Destruct-dict in
     record {
-      told : length l.said.items ≡ l.visit-index;
+      counted : length l.said.items ≡ l.visit-index;
       room : length l.sessions ≤ vec_capacity l.said;
       so_far : SoFar (HasCleanDisk first) (HasCleanDisk (state g.S.Store l.desk.keeper.conn))
           (λ start. IsTrue first.is_open × AreTablesOf start first.committed.trees) (Holds k l.desk)

@@ -6,8 +6,8 @@ use Rattle.rtgs_promises.proofs.headline.make_and_live.Goals as goal
 
 pub returns-in_err-made-clause-ended : goal.returns-in_err-made-clause-ended
 returns-in_err-made-clause-ended g c =
-    let told_on = err_from_is_err_and c.from_residual.result c.from_residual.ensures.1 in
-    rw (told_on.1, told_on.2) (λ clean empty. c.in_err-made.ensures.ended clean empty _)
+    let passed_on = err_from_is_err_and c.from_residual.result c.from_residual.ensures.1 in
+    rw (passed_on.1, passed_on.2) (λ clean empty. c.in_err-made.ensures.ended clean empty _)
 
 pub returns-in-Ok-clause-lived : goal.returns-in-Ok-clause-lived
 returns-in-Ok-clause-lived g c clean empty =

@@ -26,18 +26,18 @@ returns-in-Err-clause-ended g c clean is_open start tables calm given =
 
 pub returns-in-Err-with_capacity-clause-ended : goal.returns-in-Err-with_capacity-clause-ended
 returns-in-Err-with_capacity-clause-ended g c clean is_open start tables calm given =
-    let held = (c.in-Ok.ensures.held (c.given_up.ensures.honest clean) is_open start tables).0 in
+    let held = (c.in-Ok.ensures.held (c.abandoned.ensures.honest clean) is_open start tables).0 in
     rw c.new-none.ensures.items (ends_early (record {
       run = c.life_is_a_run.ensures.run;
       stands = c.life_is_a_run.ensures.stands;
       calm = c.life_is_a_run.ensures.calm;
       resolutions = c.each_resolution_settles_the_greatest_choice.ensures.each;
       in_time = c.nothing_settles_early.ensures.sound;
-    }) start given [] _ (g.S.Store.recovers c.given_up.result) tables.2.sound calm tt
-    (λ trees may. (start, c.given_up.ensures.tables clean start held trees may, no_life start)))
+    }) start given [] _ (g.S.Store.recovers c.abandoned.result) tables.2.sound calm tt
+    (λ trees may. (start, c.abandoned.ensures.tables clean start held trees may, no_life start)))
 
 pub returns-in-Err-clause-back : goal.returns-in-Err-clause-back
 returns-in-Err-clause-back g c clean = c.in-Err.ensures.back clean
 
 pub returns-in-Err-with_capacity-clause-back : goal.returns-in-Err-with_capacity-clause-back
-returns-in-Err-with_capacity-clause-back g c clean = c.in-Ok.ensures.honest (c.given_up.ensures.honest clean)
+returns-in-Err-with_capacity-clause-back g c clean = c.in-Ok.ensures.honest (c.abandoned.ensures.honest clean)

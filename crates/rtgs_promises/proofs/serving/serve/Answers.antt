@@ -20,12 +20,12 @@ returns-clause-comes g c clean start held trees may =
       },
       (
         serves_more _ _ (λ input sent exchanged.
-            let deals = exchanged.deals clean start held in
+            let handles = exchanged.handles clean start held in
             record {
               desk = c.serve_one.new.desk;
-              deals = deals;
-              replies = deals.works.0;
-              allowed = given_are_allowed operator start input deals.answer (length deals.works.0) deals.allowed;
+              handles = handles;
+              replies = handles.works.0;
+              allowed = given_are_allowed operator start input handles.answer (length handles.works.0) handles.allowed;
               headline = headline (record {
                 run = c.life_is_a_run.ensures.run;
                 stands = c.life_is_a_run.ensures.stands;
@@ -33,7 +33,7 @@ returns-clause-comes g c clean start held trees may =
                 resolutions = c.each_resolution_settles_the_greatest_choice.ensures.each;
                 in_time = c.nothing_settles_early.ensures.sound;
               }) start found _ _ sound (c.holds_a_sound_book.ensures.calm start held)
-                  (one_life start found _ deals.works.0 (deals.works.1.session found (trees, may, some.1)));
+                  (one_life start found _ handles.works.0 (handles.works.1.session found (trees, may, some.1)));
             }) _ _ _ c.serve_one.result e.served,
         λ failed is. (c.holds_a_sound_book.ensures.after_a_crash start found held).0
             (subst (λ desk. MayLeave g.S.Store desk.keeper.conn found) (e.read_fault failed is) (trees, may, some.1)),

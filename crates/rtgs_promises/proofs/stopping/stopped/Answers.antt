@@ -1,5 +1,5 @@
 use Rattle.std.proofs.Common.{arith, sym, subst}
-use Rattle.rtgs_promises.proofs.LetGo.{still_open, is_fresh}
+use Rattle.rtgs_promises.proofs.Released.{still_open, is_fresh}
 use Rattle.rtgs_promises.proofs.stopping.stopped.Goals as goal
 
 pub returns-then-is_let_go-clause-fresh : goal.returns-then-is_let_go-clause-fresh

@@ -2,7 +2,7 @@ use Rattle.std.proofs.Common.{rules, ◌≡◌, ◌≤◌, ◌+◌, ◌∙◌, �
 use Rattle.std.proofs.lemmas.List.{take_more}
 use Rattle.rtgs_book.specs.declared.order.Order.{Order}
 use Rattle.rtgs_book.specs.Books.{is_queued_state, is_held_state}
-use Rattle.rtgs_queues.specs.Queues.{numbers_of, room_of}
+use Rattle.rtgs_queues.specs.QueueNumbers.{numbers_of, room_of}
 use Rattle.rtgs_queues.proofs.OrderLemmas.{ArePlaces, place_queued, place_held, place_none, not_queued, not_held}
 use Rattle.rtgs_queues.proofs.orders.places_of.Goals as goal
 use Rattle.rtgs_queues.proofs.orders.places_of.Goals.{in-Queued, in-Held+in_ok-reserve-in-Held, in_default}

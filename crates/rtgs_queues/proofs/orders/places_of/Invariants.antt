@@ -1,7 +1,7 @@
 use Rattle.std.proofs.Common.{◌≡◌, ◌≤◌, ℕ, List, take, length}
 use Rattle.rtgs_book.specs.Books.{is_queued_state, is_held_state}
 use Rattle.rtgs_queues.specs.Orders.{numbers_among}
-use Rattle.rtgs_queues.specs.Queues.{numbers_of, room_of}
+use Rattle.rtgs_queues.specs.QueueNumbers.{numbers_of, room_of}
 use Rattle.rtgs_queues.proofs.orders.places_of.Given as goal
 
 abbrev pub invariant-loop-order : goal.invariant-loop-order

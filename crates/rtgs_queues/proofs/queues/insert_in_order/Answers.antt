@@ -7,7 +7,7 @@ use Rattle.std.specs.List.Sorted.{IsPartitionedBy}
 use Rattle.rtgs_lists.proofs.Filters.{put_in}
 use Rattle.rtgs_lists.proofs.Lists.{all_at_place}
 use Rattle.rtgs_lists.proofs.Places.{put_in_at}
-use Rattle.rtgs_queues.specs.Queues.{AreInOrder}
+use Rattle.rtgs_queues.specs.QueueNumbers.{AreInOrder}
 use Rattle.rtgs_queues.proofs.queues.insert_in_order.Goals as goal
 
 -- what is below a number comes first

@@ -11,5 +11,5 @@ returns-in_err-desk-clause-stops g c version =
 
 pub returns-clause-blank : goal.returns-clause-blank
 returns-clause-blank g c clean blank =
-    let shown = (c.in_ok-desk.ensures.told clean).shown in
+    let shown = (c.in_ok-desk.ensures.read clean).shown in
     unshown (state g.S.Store c.args.conn.now) blank shown.0 shown.1

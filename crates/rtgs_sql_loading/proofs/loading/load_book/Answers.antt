@@ -6,7 +6,7 @@ use Rattle.rtgs_rows.specs.Tables.{IsVersion, schema_in}
 use Rattle.rtgs_sql_loading.specs.Accounts.{ExplainsRead}
 use Rattle.rtgs_sql_loading.proofs.Judging.{judged_book, judged_of, unread, unread_of, answered}
 use Rattle.rtgs_sql_loading.proofs.Together.{held_book, shown_book}
-use Rattle.rtgs_sql_loading.proofs.Displaying.{displayed_book, told_of_book, told_of_none}
+use Rattle.rtgs_sql_loading.proofs.Displaying.{displayed_book, explains_book, explains_none}
 use Rattle.rtgs_sql_loading.proofs.loading.load_book.Goals as goal
 
 pub returns-in_err-stored-clause-tells : goal.returns-in_err-stored-clause-tells
@@ -15,18 +15,18 @@ returns-in_err-stored-clause-tells g c clean =
     let stops = c.read_tables.ensures.stops in
     let kinds = c.read_tables.ensures.kinds in
     let was = c.in_err-stored.was in
-    let told = c.from_residual.ensures.1 in
+    let passed = c.from_residual.ensures.1 in
     record {
       read = λ accounts book held. search rules;
       explained = λ accounts book held. unread accounts book c.read_tables.result _ c.from_residual.result
-          (stops.right clean accounts book held) kinds was told;
+          (stops.right clean accounts book held) kinds was passed;
       held = λ trees file whole. search rules;
       shown = λ trees file. search rules;
       caused = λ trees file. unread_of c.args.version trees c.read_tables.result _ c.from_residual.result
-          (stops.wrong clean trees file) kinds was told;
+          (stops.wrong clean trees file) kinds was passed;
       displayed = search rules;
-      told = told_of_none c.args.version (state g.S.Store c.args.conn.now).now c.read_tables.result _
-          c.from_residual.result (stops.unread clean known) kinds was told;
+      by_queries = explains_none c.args.version (state g.S.Store c.args.conn.now).now c.read_tables.result _
+          c.from_residual.result (stops.unread clean known) kinds was passed;
       unknown = λ not. absurd (not known);
     }
 
@@ -35,7 +35,7 @@ returns-clause-tells g c clean =
     let version = c.args.version in
     let s = state g.S.Store c.args.conn.now in
     let known : IsVersion version = c.is_version.ensures.0 c.if-not-is_version.false in
-    let tells = c.in_ok-stored.ensures.told known clean in
+    let tells = c.in_ok-stored.ensures.read known clean in
     let it = c.judged.ensures in
     record {
       read = λ accounts book held.
@@ -53,7 +53,7 @@ returns-clause-tells g c clean =
           shown_book version trees _ _ c.judged.result (tells.rows trees file) it.given it.sound it.balances;
       caused = λ trees file. judged_of version trees _ _ c.judged.result (tells.rows trees file) it.explained;
       displayed = displayed_book version s.now _ _ c.judged.result tells.displayed it.given it.sound it.balances;
-      told = told_of_book version s.now _ _ c.judged.result tells.displayed it.explained;
+      by_queries = explains_book version s.now _ _ c.judged.result tells.displayed it.explained;
       unknown = λ not. absurd (not known);
     }
 

@@ -32,8 +32,8 @@ returns-in_err-all-clause-stops g c =
 
 pub returns-in_err-orders-clause-stops : goal.returns-in_err-orders-clause-stops
 returns-in_err-orders-clause-stops g c =
-    stops_apart _ _ _ c.in_ok-all.ensures.on (λ clean. (c.in_ok-all.ensures.told clean).1.1.1.1.0)
-    (λ clean. (c.in_ok-all.ensures.told clean).1.1.1.1.1.1.0)
+    stops_apart _ _ _ c.in_ok-all.ensures.on (λ clean. (c.in_ok-all.ensures.read clean).1.1.1.1.0)
+    (λ clean. (c.in_ok-all.ensures.read clean).1.1.1.1.1.1.0)
     (λ all. rw c.as_slice.ensures.value at (c.in_err-orders.ensures.apart all))
 
 pub returns-in_err-participants-clause-stops : goal.returns-in_err-participants-clause-stops
@@ -46,7 +46,7 @@ returns-clause-stops g c = stops_never _ c.in_ok-all.ensures.on (λ e. cc)
 pub returns-clause-blank : goal.returns-clause-blank
 returns-clause-blank g c known clean blank =
     let s = state g.S.Store c.args.conn.now in
-    let shown = ((c.in_ok-all.ensures.told clean).0.1.told known).1 in
+    let shown = ((c.in_ok-all.ensures.read clean).0.1.has_rows known).1 in
     absurd (unshown s blank shown.0 shown.1)
 
 pub invariant_of-result : goal.invariant_of-result
@@ -55,9 +55,9 @@ invariant_of-result g c = record {
       ∙ ap (map (λ (a : Account). a.participant)) c.as_slice-2.ensures.value;
 }
 
-pub returns-clause-told : goal.returns-clause-told
-returns-clause-told g c known clean =
-    let read = c.in_ok-all.ensures.told clean in
+pub returns-clause-read : goal.returns-clause-read
+returns-clause-read g c known clean =
+    let read = c.in_ok-all.ensures.read clean in
     let participants = c.from_vec.ensures ∙ c.in_ok-participants.ensures
     ∙ ap (map (λ (a : Account). a.participant)) c.as_slice-2.ensures.value in
     let s = state g.S.Store c.args.conn.now in
@@ -67,12 +67,12 @@ returns-clause-told g c known clean =
     let stored = read.1.1.0.reads in
     let lists = read.1.1.1 in
     let postings = renamed c.from_vec-2.ensures lists.0.reads in
-    let payments = c.in_ok-all.all.1.1.1.1.0.items in
+    let undated_orders = c.in_ok-all.all.1.1.1.1.0.items in
     let dues = c.in_ok-all.all.1.1.1.1.1.1.0.items in
-    let joined : AreJoined payments dues c.in_ok-orders.orders.items =
+    let joined : AreJoined undated_orders dues c.in_ok-orders.orders.items =
     rw c.as_slice.ensures.value at c.in_ok-orders.ensures.joined in
-    let parts = taken_apart payments dues c.in_ok-orders.orders.items joined
-    (all_weaker _ (λ (o : Order). o.due ≡ None) (λ o fit. fit.1) payments lists.1.0.reads.fit) in
+    let parts = taken_apart undated_orders dues c.in_ok-orders.orders.items joined
+    (all_weaker _ (λ (o : Order). o.due ≡ None) (λ o fit. fit.1) undated_orders lists.1.0.reads.fit) in
     let is = c.from_vec-3.ensures in
     let orders = renamed (ap (map without_due) is ∙ parts.0) lists.1.0.reads in
     let marks = renamed c.from_vec-4.ensures lists.1.1.0.reads in

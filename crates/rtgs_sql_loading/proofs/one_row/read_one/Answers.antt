@@ -4,12 +4,12 @@ use Rattle.rtgs_rows.specs.Querying.{as_shown}
 use Rattle.rtgs_sql_columns.specs.Tables.{query_text}
 use Rattle.rtgs_sql_loading.specs.Accounts.{IsOneRow}
 use Rattle.rtgs_sql_loading.proofs.Keeps.{not_foreign, keeps_after, schema_of, schema_at, survives_on}
-use Rattle.rtgs_sql_loading.proofs.Told.{single, one_reads, no_row, not_read}
+use Rattle.rtgs_sql_loading.proofs.Records.{single, one_reads, no_row, not_read}
 use Rattle.rtgs_sql_loading.proofs.Displaying.{without_form, without_answer, reads_on}
 use Rattle.rtgs_sql_loading.proofs.one_row.read_one.Goals as goal
 
-pub returns-in-Ok-clause-told : goal.returns-in-Ok-clause-told
-returns-in-Ok-clause-told g c clean =
+pub returns-in-Ok-clause-read : goal.returns-in-Ok-clause-read
+returns-in-Ok-clause-read g c clean =
     let t = g.T.TableRow.records in
     one_reads t (state g.S.Store c.args.conn.now) _ _ c.only_row.result c.as_slice.ensures.value
     (c.in-Ok.ensures.answered clean).0

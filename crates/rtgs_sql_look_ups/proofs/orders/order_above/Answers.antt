@@ -4,13 +4,13 @@ use Rattle.rtgs_sql_look_ups.proofs.FindingLemmas.{look_then, was_clean, holds_a
 use Rattle.rtgs_sql_look_ups.proofs.orders.order_above.Goals as goal
 
 pub returns-in-Ok-clause-looks : goal.returns-in-Ok-clause-looks
-returns-in-Ok-clause-looks g c = look_then g.S.Store c.args.conn.now c.payment_above.new.conn c.with_due.new.conn _
+returns-in-Ok-clause-looks g c = look_then g.S.Store c.args.conn.now c.undated_above.new.conn c.with_due.new.conn _
     c.with_due.result c.in-Ok.ensures.looks c.with_due.ensures.looks
 
 pub returns-in-Ok-clause-found : goal.returns-in-Ok-clause-found
 returns-in-Ok-clause-found g c clean book held =
-    let was = was_clean g.S.Store c.payment_above.new.conn c.with_due.new.conn c.with_due.result
+    let was = was_clean g.S.Store c.undated_above.new.conn c.with_due.new.conn c.with_due.result
     c.with_due.ensures.looks clean in
-    let mid = holds_after g.S.Store c.args.conn.now c.payment_above.new.conn _ book c.in-Ok.ensures.looks was held in
+    let mid = holds_after g.S.Store c.args.conn.now c.undated_above.new.conn _ book c.in-Ok.ensures.looks was held in
     c.with_due.ensures.found clean book mid (λ (o : Order). nat_lt c.args.number o.number)
     (c.in-Ok.ensures.found was book held)

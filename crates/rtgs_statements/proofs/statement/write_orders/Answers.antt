@@ -16,7 +16,7 @@ use Rattle.rtgs_statements.proofs.Begins.{appends-both, begins-within}
 use Rattle.rtgs_statements.proofs.Growth.{appends-none}
 use Rattle.rtgs_statements.proofs.Leaving.{no_fault, nothing_read, read_more}
 use Rattle.rtgs_statements.proofs.Terms.{Within, term-within, wider}
-use Rattle.rtgs_statements.proofs.Told.{orders_left, orders_begin, orders_end, order_rows_split, settled_split}
+use Rattle.rtgs_statements.proofs.RecordsOfDate.{orders_left, orders_begin, orders_end, order_rows_split, settled_split}
 use Rattle.rtgs_statements.proofs.Wholes.{none-whole, wholes-both, order_row-whole, text-leaves}
 use Rattle.rtgs_statements.proofs.statement.write_orders.Goals as goal
 
@@ -81,7 +81,7 @@ loop-next-preserved g c =
           let now = inv.read.held early book held no_fault in
           let numbers = c.records_are_listed.ensures.orders book (c.reads_a_sound_book.ensures book held) in
           let is : order_after book c.args.date c.loop-next.last ≡ Some next =
-          sym (c.in-Ok.ensures.told honest book now) ∙ c.in-Some.is in
+          sym (c.in-Ok.ensures.found honest book now) ∙ c.in-Some.is in
           let split = settled_split c.args.code.now c.args.date c.loop-next.last book next numbers is Sender in
           let before = inv.sent early book held in
           omega (arith, ints);
@@ -90,7 +90,7 @@ loop-next-preserved g c =
           let now = inv.read.held early book held no_fault in
           let numbers = c.records_are_listed.ensures.orders book (c.reads_a_sound_book.ensures book held) in
           let is : order_after book c.args.date c.loop-next.last ≡ Some next =
-          sym (c.in-Ok.ensures.told honest book now) ∙ c.in-Some.is in
+          sym (c.in-Ok.ensures.found honest book now) ∙ c.in-Some.is in
           let split = settled_split c.args.code.now c.args.date c.loop-next.last book next numbers is Receiver in
           let before = inv.received early book held in
           omega (arith, ints);
@@ -99,7 +99,7 @@ loop-next-preserved g c =
           let now = inv.read.held early book held no_fault in
           let numbers = c.records_are_listed.ensures.orders book (c.reads_a_sound_book.ensures book held) in
           let is : order_after book c.args.date c.loop-next.last ≡ Some next =
-          sym (c.in-Ok.ensures.told honest book now) ∙ c.in-Some.is in
+          sym (c.in-Ok.ensures.found honest book now) ∙ c.in-Some.is in
           let rows = inv.rows early book held in (
             rows.0 ++ order_row c.args.code.now next,
             appends-both _ _ _ rows.0 (order_row c.args.code.now next) rows.1 written,
@@ -118,7 +118,7 @@ returns-in-Err-write_order-clause-begun g c honest book held =
     let now = inv.read.held early book held no_fault in
     let numbers = c.records_are_listed.ensures.orders book (c.reads_a_sound_book.ensures book held) in
     let is : order_after book c.args.date c.loop-next.last ≡ Some next =
-    sym (c.in-Ok.ensures.told honest book now) ∙ c.in-Some.is in
+    sym (c.in-Ok.ensures.found honest book now) ∙ c.in-Some.is in
     let rows = inv.rows early book held in
     begins-within _ _ _ rows.0 (order_row c.args.code.now next)
     (order_rows c.args.code.now (orders_left c.args.date next.number book)) _ rows.1
@@ -131,7 +131,7 @@ returns-in_default-clause-written g c honest book held =
     let early = c.later_order.ensures.read.honest honest in
     let now = inv.read.held early book held no_fault in
     let over = orders_end c.args.date c.loop-next.last book
-    (sym (c.in-Ok.ensures.told honest book now) ∙ none_else c.in-Ok.next c.in_default.not-Some) in
+    (sym (c.in-Ok.ensures.found honest book now) ∙ none_else c.in-Ok.next c.in_default.not-Some) in
     let rows = inv.rows early book held in
     subst (Appends (g.W.Write.contents c.args.out.now) (g.W.Write.contents c.loop-next.out))
     (sym (append-nil rows.0) ∙ sym (ap (λ os. rows.0 ++ order_rows c.args.code.now os) over) ∙ rows.2) rows.1
@@ -142,7 +142,7 @@ returns-in_default-clause-sums g c honest book held =
     let early = c.later_order.ensures.read.honest honest in
     let now = inv.read.held early book held no_fault in
     let end = orders_end c.args.date c.loop-next.last book
-    (sym (c.in-Ok.ensures.told honest book now) ∙ none_else c.in-Ok.next c.in_default.not-Some) in
+    (sym (c.in-Ok.ensures.found honest book now) ∙ none_else c.in-Ok.next c.in_default.not-Some) in
     let no_sent = ap (sent c.args.code.now) end in
     let no_received = ap (received c.args.code.now) end in
     let sent_so_far = inv.sent early book held in

@@ -7,7 +7,7 @@ use Rattle.rtgs_statements.specs.Records.{orders_on}
 use Rattle.rtgs_statements.specs.Rows.{order_rows}
 use Rattle.rtgs_statements.specs.Sums.{sent, received}
 use Rattle.rtgs_statements.proofs.Terms.{Within}
-use Rattle.rtgs_statements.proofs.Told.{orders_left}
+use Rattle.rtgs_statements.proofs.RecordsOfDate.{orders_left}
 use Rattle.rtgs_statements.proofs.statement.write_orders.Given as goal
 
 -- the sums and the rows so far, with those of the orders that are left

@@ -13,7 +13,8 @@ use Rattle.rtgs_statements.proofs.Begins.{appends-both, begins-within}
 use Rattle.rtgs_statements.proofs.Growth.{appends-none}
 use Rattle.rtgs_statements.proofs.Leaving.{no_fault, nothing_read, read_more}
 use Rattle.rtgs_statements.proofs.Terms.{Within, term-within, wider}
-use Rattle.rtgs_statements.proofs.Told.{postings_left, postings_begin, postings_end, posting_rows_split, posted_split}
+use Rattle.rtgs_statements.proofs.RecordsOfDate.{postings_left, postings_begin, postings_end, posting_rows_split}
+use Rattle.rtgs_statements.proofs.RecordsOfDate.{posted_split}
 use Rattle.rtgs_statements.proofs.Wholes.{none-whole, wholes-both, posting_row-whole, text-leaves}
 use Rattle.rtgs_statements.proofs.statement.write_postings.Goals as goal
 
@@ -66,7 +67,7 @@ loop-next-preserved g c =
           let now = inv.read.held back book held no_fault in
           let numbers = (c.records_are_listed.ensures.postings book (c.reads_a_sound_book.ensures book held)).numbers in
           let is : posting_after book c.args.date c.loop-next.last ≡ Some next =
-          sym (c.in-Ok.ensures.told honest book now) ∙ c.in-Some.is in
+          sym (c.in-Ok.ensures.found honest book now) ∙ c.in-Some.is in
           let split = posted_split c.args.code.now c.args.date c.loop-next.last book next numbers is in
           let before = inv.sum back book held in
           omega (arith, ints);
@@ -75,7 +76,7 @@ loop-next-preserved g c =
           let now = inv.read.held back book held no_fault in
           let numbers = (c.records_are_listed.ensures.postings book (c.reads_a_sound_book.ensures book held)).numbers in
           let is : posting_after book c.args.date c.loop-next.last ≡ Some next =
-          sym (c.in-Ok.ensures.told honest book now) ∙ c.in-Some.is in
+          sym (c.in-Ok.ensures.found honest book now) ∙ c.in-Some.is in
           let rows = inv.rows back book held in (
             rows.0 ++ posting_row c.args.code.now next,
             appends-both _ _ _ rows.0 (posting_row c.args.code.now next) rows.1 written,
@@ -94,7 +95,7 @@ returns-in-Err-write_posting-clause-begun g c honest book held =
     let now = inv.read.held back book held no_fault in
     let numbers = (c.records_are_listed.ensures.postings book (c.reads_a_sound_book.ensures book held)).numbers in
     let is : posting_after book c.args.date c.loop-next.last ≡ Some next =
-    sym (c.in-Ok.ensures.told honest book now) ∙ c.in-Some.is in
+    sym (c.in-Ok.ensures.found honest book now) ∙ c.in-Some.is in
     let rows = inv.rows back book held in
     begins-within _ _ _ rows.0 (posting_row c.args.code.now next)
     (posting_rows c.args.code.now (postings_left c.args.date next.number book)) _ rows.1
@@ -107,7 +108,7 @@ returns-in_default-clause-written g c honest book held =
     let back = c.later_posting.ensures.read.honest honest in
     let now = inv.read.held back book held no_fault in
     let over = postings_end c.args.date c.loop-next.last book
-    (sym (c.in-Ok.ensures.told honest book now) ∙ none_else c.in-Ok.next c.in_default.not-Some) in
+    (sym (c.in-Ok.ensures.found honest book now) ∙ none_else c.in-Ok.next c.in_default.not-Some) in
     let rows = inv.rows back book held in
     subst (Appends (g.W.Write.contents c.args.out.now) (g.W.Write.contents c.loop-next.out))
     (sym (append-nil rows.0) ∙ sym (ap (λ ps. rows.0 ++ posting_rows c.args.code.now ps) over) ∙ rows.2) rows.1
@@ -118,7 +119,7 @@ returns-in_default-clause-sum g c honest book held =
     let back = c.later_posting.ensures.read.honest honest in
     let now = inv.read.held back book held no_fault in
     let over = ap (posted c.args.code.now) (postings_end c.args.date c.loop-next.last book
-    (sym (c.in-Ok.ensures.told honest book now) ∙ none_else c.in-Ok.next c.in_default.not-Some)) in
+    (sym (c.in-Ok.ensures.found honest book now) ∙ none_else c.in-Ok.next c.in_default.not-Some)) in
     let before = inv.sum back book held in
     omega (arith, ints)
 

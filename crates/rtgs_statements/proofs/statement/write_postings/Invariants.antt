@@ -7,7 +7,7 @@ use Rattle.rtgs_statements.specs.Records.{postings_on}
 use Rattle.rtgs_statements.specs.Rows.{posting_rows}
 use Rattle.rtgs_statements.specs.Sums.{posted}
 use Rattle.rtgs_statements.proofs.Terms.{Within}
-use Rattle.rtgs_statements.proofs.Told.{postings_left}
+use Rattle.rtgs_statements.proofs.RecordsOfDate.{postings_left}
 use Rattle.rtgs_statements.proofs.statement.write_postings.Given as goal
 
 -- the sum and the rows so far, with those of the postings that are left

@@ -54,26 +54,22 @@ impl Ring {
     }
 }
 
-/// The code of a bank.
 fn bank(alloc: Global, number: u64) -> Result<Code, Fail> {
     let text = format!(in alloc; "BANK{number}")?;
     code(text.as_str())
 }
 
-/// Keeps one row.
 fn keep<K: Keeper>(alloc: Global, keeper: &mut K, row: RowChange) -> Result<(), Fail> {
     keeper.commit(&change(alloc, &[row])?)?;
     Ok(())
 }
 
-/// Adds a bank.
 fn add_bank<K: Keeper>(alloc: Global, keeper: &mut K, number: u64) -> Result<(), Fail> {
     let text = format!(in alloc; "BANK{number}")?;
     let bank = participant(text.as_str(), (number % 256) as u8)?;
     keep(alloc, keeper, RowChange::AddParticipant(bank))
 }
 
-/// Adds the banks.
 fn add_banks<K: Keeper>(alloc: Global, keeper: &mut K) -> Result<(), Fail> {
     for number in 0..BANKS {
         add_bank(alloc, keeper, number)?;
@@ -125,7 +121,6 @@ fn orders_after(alloc: Global, ring: Ring, number: u64) -> Result<Vec<RowChange>
     Ok(rows)
 }
 
-/// Queues all orders.
 fn queue_orders<K: Keeper>(alloc: Global, keeper: &mut K, ring: Ring) -> Result<(), Fail> {
     for turn in 0..ring.senders() {
         let rows = orders_after(alloc, ring, turn.saturating_mul(AT_ONCE))?;

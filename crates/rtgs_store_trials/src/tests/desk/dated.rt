@@ -134,13 +134,13 @@ marks              1
 ";
 
 #[test]
-fn a_report_has_what_bears_the_date(rt: HostRuntime) -> Result<(), Fail> {
+fn a_report_has_what_is_of_the_date(rt: HostRuntime) -> Result<(), Fail> {
     let mut desk = desk_after(rt.alloc(), TWO_DAYS)?;
     let text = report(rt.alloc(), &mut desk)?;
     is_same(text.as_str(), REPORT)
 }
 
-// What bears a date changes as orders for it are held, taken back, and enter their queue on a later day.
+// What has a date changes as orders for it are held, taken back, and enter their queue on a later day.
 const LATER_DAYS: &str = "
 open 2024-03-01 => Opened
 order ALFA O-1 BETA 100 due 2024-03-04 => Held { number: 1, due: BusinessDate { number: 20240304 } }
@@ -169,7 +169,7 @@ next-order 2024-03-05 2 => none
 ";
 
 #[test]
-fn an_order_bears_its_due_date_until_it_enters(rt: HostRuntime) -> Result<(), Fail> {
+fn an_order_has_its_due_date_until_it_enters(rt: HostRuntime) -> Result<(), Fail> {
     desk_after(rt.alloc(), LATER_DAYS)?;
     Ok(())
 }

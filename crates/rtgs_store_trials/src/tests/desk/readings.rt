@@ -47,9 +47,9 @@ fn waiting(alloc: Global, orders: &[Order; 3]) -> Result<Desk<MemoryKeeper>, Fai
 }
 
 #[test]
-fn an_account_is_told_with_its_queue(rt: HostRuntime) -> Result<(), Fail> {
+fn an_account_is_answered_with_its_queue(rt: HostRuntime) -> Result<(), Fail> {
     let unknown = code("GAMMA")?;
-    let told = AccountReading {
+    let reading = AccountReading {
         participant: participant("ALFA", 1)?,
         balance: Cents::new(0),
         day: today()?,
@@ -57,8 +57,11 @@ fn an_account_is_told_with_its_queue(rt: HostRuntime) -> Result<(), Fail> {
         queued_value: Units::new(150),
     };
     let desk = waiting(rt.alloc(), &orders()?)?;
-    let accounts = [desk.account(&told.participant.code), desk.account(&unknown)];
-    assert_eq!(rt; accounts, [Ok(told), Err(Refusal::UnknownParticipant)]);
+    let accounts = [
+        desk.account(&reading.participant.code),
+        desk.account(&unknown),
+    ];
+    assert_eq!(rt; accounts, [Ok(reading), Err(Refusal::UnknownParticipant)]);
     Ok(())
 }
 
@@ -75,7 +78,7 @@ accounts => [ABLE 0 0 0 0.00][ALFA -60 100 2 0.57][BETA 60 0 0 0.00][GAMA 0 0 0 
 ";
 
 #[test]
-fn all_accounts_are_told_in_their_order(rt: HostRuntime) -> Result<(), Fail> {
+fn all_accounts_are_answered_in_their_order(rt: HostRuntime) -> Result<(), Fail> {
     desk_follows(&rt, BELOW_ZERO)
 }
 
@@ -88,7 +91,7 @@ day => Day { date: Some(BusinessDate { number: 20240304 }), phase: CutOff, autom
 ";
 
 #[test]
-fn the_day_is_told(rt: HostRuntime) -> Result<(), Fail> {
+fn the_day_is_answered(rt: HostRuntime) -> Result<(), Fail> {
     desk_follows(&rt, DAYS)
 }
 
@@ -99,15 +102,15 @@ fn has_queue<K: Keeper>(desk: &Desk<K>, sender: &Code, orders: &[Order]) -> Resu
 }
 
 #[test]
-fn a_queue_is_told_in_its_order(rt: HostRuntime) -> Result<(), Fail> {
+fn a_queue_is_answered_in_its_order(rt: HostRuntime) -> Result<(), Fail> {
     let unknown = code("GAMMA")?;
     let orders = orders()?;
     let desk = waiting(rt.alloc(), &orders)?;
-    let told = [
+    let answers = [
         has_queue(&desk, &orders[0].sender, &[orders[0], orders[2]]),
         has_queue(&desk, &unknown, &[]),
     ];
-    assert_eq!(rt; told, [Ok(true), Err(Refusal::UnknownParticipant)]);
+    assert_eq!(rt; answers, [Ok(true), Err(Refusal::UnknownParticipant)]);
     Ok(())
 }
 
@@ -125,17 +128,17 @@ fn orders_of<K: Keeper>(
 }
 
 #[test]
-fn an_order_is_told_by_its_name(rt: HostRuntime) -> Result<(), Fail> {
+fn an_order_is_answered_by_its_name(rt: HostRuntime) -> Result<(), Fail> {
     let orders = orders()?;
     let withdrawn = orders[1];
     let senders = [withdrawn.sender, code("BETA")?, code("GAMMA")?];
     let mut desk = waiting(rt.alloc(), &orders)?;
-    let told = orders_of(&mut desk, &senders, &withdrawn.reference);
+    let answers = orders_of(&mut desk, &senders, &withdrawn.reference);
     let wanted = [
         Ok(withdrawn),
         Err(Refusal::UnknownOrder),
         Err(Refusal::UnknownParticipant),
     ];
-    assert_eq!(rt; told, wanted);
+    assert_eq!(rt; answers, wanted);
     Ok(())
 }

@@ -18,7 +18,7 @@ fn number(text: &str) -> Result<u64, Fail> {
 }
 
 // What the keeper tells of a name, or of what comes next on a day after a number.
-fn told<K: Keeper>(alloc: Global, keeper: &mut K, question: &[&str]) -> Result<String, Fail> {
+fn answer<K: Keeper>(alloc: Global, keeper: &mut K, question: &[&str]) -> Result<String, Fail> {
     match question {
         ["order", sender, name] => {
             order_if_any(
@@ -40,17 +40,17 @@ fn told<K: Keeper>(alloc: Global, keeper: &mut K, question: &[&str]) -> Result<S
     }
 }
 
-// One line of a script: a question, and what is told.
+// One line of a script: a question, and its answer.
 fn answers_line<K: Keeper>(alloc: Global, keeper: &mut K, line: &str) -> Result<(), Fail> {
     let Some((question, expected)) = line.split_once(" = ") else {
         return Err(Fail::from("no question with its answer"));
     };
     let words: Vec<&str> = question.split_whitespace().collect(alloc)?;
-    let told = told(alloc, keeper, words.as_slice())?;
-    if told.as_str() == expected {
+    let answer = answer(alloc, keeper, words.as_slice())?;
+    if answer.as_str() == expected {
         return Ok(());
     }
-    let said = format!(in alloc; "{line}: told {told}")?;
+    let said = format!(in alloc; "{line}: answered {answer}")?;
     Err(Fail::from(said))
 }
 

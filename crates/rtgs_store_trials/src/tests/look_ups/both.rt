@@ -72,31 +72,31 @@ fn in_tables(alloc: Global) -> Result<SqlKeeper<MemStore>, Fail> {
 }
 
 // Adds accounts, each with its balance.
-fn add_accounts(told: &mut String, accounts: &[Account]) -> Result<(), Fail> {
+fn add_accounts(text: &mut String, accounts: &[Account]) -> Result<(), Fail> {
     for account in accounts {
         let (code, cents) = (account.participant.code, account.balance.cents());
-        write!(told, "{code} {cents}, ")?;
+        write!(text, "{code} {cents}, ")?;
     }
     Ok(())
 }
 
 // Adds orders that wait.
-fn add_orders(told: &mut String, orders: &[Order]) -> Result<(), Fail> {
+fn add_orders(text: &mut String, orders: &[Order]) -> Result<(), Fail> {
     for order in orders {
-        write!(told, "{} {:?}, ", order.number, order.state)?;
+        write!(text, "{} {:?}, ", order.number, order.state)?;
     }
     Ok(())
 }
 
 // The accounts of a core, the orders that wait, the day, and the next numbers, in words.
 fn core_in_words(alloc: Global, core: &Core) -> Result<String, Fail> {
-    let mut told = String::new(alloc);
-    add_accounts(&mut told, core.accounts.as_slice())?;
-    add_orders(&mut told, core.waiting.as_slice())?;
+    let mut text = String::new(alloc);
+    add_accounts(&mut text, core.accounts.as_slice())?;
+    add_orders(&mut text, core.waiting.as_slice())?;
     let (posting, order, mark) = (core.next_posting, core.next_order, core.next_mark);
     let (phase, automatic) = (core.day.phase, core.day.automatic);
-    write!(told, "{phase:?} {automatic}, next {posting} {order} {mark}")?;
-    Ok(told)
+    write!(text, "{phase:?} {automatic}, next {posting} {order} {mark}")?;
+    Ok(text)
 }
 
 // Whether the core has the day, the participants and the orders of the rows, to the last field.
@@ -125,7 +125,7 @@ fn tells_the_core<K: Keeper>(rt: &(impl Abort + AllocGlobal), keeper: &mut K) ->
 }
 
 #[test]
-fn a_core_is_told_alike(rt: HostRuntime) -> Result<(), Fail> {
+fn a_core_is_answered_alike(rt: HostRuntime) -> Result<(), Fail> {
     tells_the_core(&rt, &mut in_memory(rt.alloc())?)?;
     tells_the_core(&rt, &mut in_tables(rt.alloc())?)
 }

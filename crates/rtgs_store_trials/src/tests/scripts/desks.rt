@@ -64,13 +64,13 @@ fn account_text<K: Keeper>(
     }
 }
 
-/// All accounts, in their order. Each is told as the account of its code is.
+/// All accounts, in their order. Each is answered as the account of its code is.
 fn accounts_text<K: Keeper>(alloc: Global, desk: &Desk<K>) -> Result<String, Fail> {
     let mut text = String::new(alloc);
     let accounts = desk.accounts()?;
     for account in accounts.as_slice() {
         if desk.account(&account.participant.code)? != *account {
-            return Err(Fail::from("an account is told in two ways"));
+            return Err(Fail::from("an account is answered in two ways"));
         }
         let listed = listed_text(alloc, account)?;
         text.push_str(listed.as_str())?;

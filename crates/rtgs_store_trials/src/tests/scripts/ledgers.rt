@@ -28,8 +28,8 @@ impl Answers for Kept {
             ["kept", sender, name] => kept_order(alloc, &mut self.keeper, sender, name),
             ["in-memory"] => numbers_in_memory(alloc, &self.ledger),
             ["day"] => day_text(alloc, &self.ledger.day()),
-            ["rows", others @ ..] => rows_told(alloc, self, others),
-            others => reply_told(alloc, self, others),
+            ["rows", others @ ..] => rows_line(alloc, self, others),
+            others => reply_line(alloc, self, others),
         }
     }
 }
@@ -115,7 +115,7 @@ fn found_for(keeper: &mut MemoryKeeper, command: &Command) -> Result<Found, Fail
 }
 
 /// What a command of these words is answered.
-fn reply_told(alloc: Global, kept: &mut Kept, words: &[&str]) -> Result<String, Fail> {
+fn reply_line(alloc: Global, kept: &mut Kept, words: &[&str]) -> Result<String, Fail> {
     // Names the types within commands and replies for the borrow checker, which finds them nowhere else in this function.
     let _no_date: Option<BusinessDate> = None;
     let _no_answer: Option<Answer> = None;
@@ -126,7 +126,7 @@ fn reply_told(alloc: Global, kept: &mut Kept, words: &[&str]) -> Result<String, 
 }
 
 /// The rows of the change that a command of these words makes, which is adopted.
-fn rows_told(alloc: Global, kept: &mut Kept, words: &[&str]) -> Result<String, Fail> {
+fn rows_line(alloc: Global, kept: &mut Kept, words: &[&str]) -> Result<String, Fail> {
     // Names the types within commands and replies for the borrow checker, which finds them nowhere else in this function.
     let _no_date: Option<BusinessDate> = None;
     let _no_answer: Option<Answer> = None;

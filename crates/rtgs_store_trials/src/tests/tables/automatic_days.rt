@@ -79,12 +79,12 @@ fn opening_text<S: Alter + Drop>(alloc: Global, keeper: SqlKeeper<S>) -> Result<
         Ok(_) => Ok(String::from_str(alloc, "opened")?),
         Err((fault, back)) => {
             let mut keeper = back;
-            let told = if keeper.load(alloc).is_ok() {
+            let loaded = if keeper.load(alloc).is_ok() {
                 ", and the book is told"
             } else {
                 ""
             };
-            Ok(format!(in alloc; "{fault:?}{told}")?)
+            Ok(format!(in alloc; "{fault:?}{loaded}")?)
         }
     }
 }

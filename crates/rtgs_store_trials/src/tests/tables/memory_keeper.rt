@@ -74,13 +74,13 @@ fn states(orders: &[Order]) -> Option<[OrderState; 2]> {
 #[test]
 fn an_order_is_settled(rt: HostRuntime) -> Result<(), Fail> {
     let book = book_after(rt.alloc(), &one_settled()?)?;
-    let told = (
+    let found = (
         states(book.orders.as_slice()),
         book.marks.len(),
         book.day.phase,
     );
     let wanted = [OrderState::Settled(1), OrderState::Queued];
-    assert_eq!(rt; told, (Some(wanted), 1, Phase::Open));
+    assert_eq!(rt; found, (Some(wanted), 1, Phase::Open));
     Ok(())
 }
 
@@ -100,8 +100,8 @@ fn a_credit_is_set(rt: HostRuntime) -> Result<(), Fail> {
         credit,
     };
     let book = book_after(rt.alloc(), &[row])?;
-    let told = credits(book.participants.as_slice());
-    assert_eq!(rt; told, Some([Credit::NONE, credit]));
+    let found = credits(book.participants.as_slice());
+    assert_eq!(rt; found, Some([Credit::NONE, credit]));
     Ok(())
 }
 

@@ -60,7 +60,7 @@ impl Shown {
 }
 
 /// What a migration answers. Nothing is changed but where it tells so.
-fn told(
+fn answer_word(
     alloc: Global,
     answer: Result<bool, Fault>,
     before: &Shown,
@@ -83,7 +83,7 @@ fn migrated<S: Alter + Drop>(alloc: Global, keeper: SqlKeeper<S>) -> Result<Stri
     }
     let answer = migrate(alloc, &mut conn);
     let after = Shown::of(alloc, &mut conn)?;
-    told(alloc, answer, &before, &after)
+    answer_word(alloc, answer, &before, &after)
 }
 
 /// Tells what the migration answers once this was made of tables of two banks, and a line of SQL was run on them.

@@ -93,9 +93,9 @@ fn faults_and_postings<S: Alter + Drop>(
 fn go_on_with_memory(rt: &(impl Abort + AllocGlobal)) -> Result<(), Fail> {
     let change = posts(rt.alloc(), 2, "P-2", 5, 1005)?;
     let mut keeper = two_banks(rt.alloc())?;
-    let told = faults_and_postings(rt.alloc(), &mut keeper, &change)?;
+    let found = faults_and_postings(rt.alloc(), &mut keeper, &change)?;
     let wanted = (Some(Fault::OutOfMemory), Some(CommitFault::OutOfMemory), 2);
-    assert_eq!(rt; told, wanted);
+    assert_eq!(rt; found, wanted);
     Ok(())
 }
 

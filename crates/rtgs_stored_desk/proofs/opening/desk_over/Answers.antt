@@ -44,11 +44,12 @@ returns-in-Err-clause-refused g c honest rest =
           (it.restless book (held_at_rest g.S.Store was as_such rest book tables));
       explained = λ schema.
           let file = file_at_rest VERSION s current_is_known rest schema in
-          why (λ memory. memory_explains s.committed.trees fault memory) (λ told. told.1.0 s.committed.trees file)
+          why (λ memory. memory_explains s.committed.trees fault memory)
+          (λ displayed. displayed.1.0 s.committed.trees file)
           (λ restless.
           let book = restless.1 in
           (restless.0, (book.0, book.1, book.2.0 s.committed.trees file, book.3))) it.explained;
-      told = why (λ memory. memory_tells s.now fault memory) (λ told. told.1.1)
+      by_queries = why (λ memory. memory_tells s.now fault memory) (λ displayed. displayed.1.1)
           (λ restless.
           let book = restless.1 in
           (restless.0, (book.0, book.1, book.2.1, book.3))) it.explained;

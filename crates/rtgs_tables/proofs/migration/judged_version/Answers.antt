@@ -7,7 +7,7 @@ use Rattle.rtgs_book.specs.declared.Fault.TheVariants.{StoreFault}
 use Rattle.rtgs_sql_loading.specs.Loading.{LoadsFrom}
 use Rattle.rtgs_sql_writes.specs.Building.{takes_a_name}
 use Rattle.rtgs_tables.specs.Migrating.{ExplainsMigration}
-use Rattle.rtgs_tables.proofs.Judging.{passed_on, told_so}
+use Rattle.rtgs_tables.proofs.Judging.{passed_on, passed_as}
 use Rattle.rtgs_tables.proofs.Migrating.{judged, taken_explained, loaded_explained, unsaid_explained, loads_before}
 use Rattle.rtgs_tables.proofs.Migrating.{keeps_then}
 use Rattle.rtgs_tables.proofs.migration.judged_version.Goals as goal
@@ -23,7 +23,7 @@ returns-in_err-version-clause-explained g c clean =
 
 pub returns-in_err-version-clause-same : goal.returns-in_err-version-clause-same
 returns-in_err-version-clause-same g c clean other =
-    (c.version_of.ensures.stops 1).same clean (λ e. other (told_so c.version_of.result _ StoreFault
+    (c.version_of.ensures.stops 1).same clean (λ e. other (passed_as c.version_of.result _ StoreFault
     c.from_residual.result c.in_err-version.was c.from_residual.ensures.1 e))
 
 pub returns-in_err-version-clause-survives : goal.returns-in_err-version-clause-survives
@@ -32,15 +32,17 @@ returns-in_err-version-clause-survives g c = (c.version_of.ensures.stops 1).surv
 pub returns-then-is_name_taken-clause-explained : goal.returns-then-is_name_taken-clause-explained
 returns-then-is_name_taken-clause-explained g c clean =
     let version = c.in_ok-version.version in
-    let told = c.in_ok-version.ensures.told clean in
-    taken_explained (state g.S.Store c.args.conn.now) version told.0 told.1 told.2
+    let says = c.in_ok-version.ensures.read clean in
+    taken_explained (state g.S.Store c.args.conn.now) version says.0 says.1 says.2
     (ap (λ (d : Database). takes_a_name version d.schema) (sym (c.in_ok-version.ensures.on.same clean))
     ∙ c.is_name_taken.ensures.yes c.if-is_name_taken.true)
 
 pub returns-in_err-load_book-clause-same : goal.returns-in_err-load_book-clause-same
 returns-in_err-load_book-clause-same g c clean other =
     keeps_then _ _ _ (c.in_ok-version.ensures.on.keeps (c.load_book.ensures.honest clean))
-    (c.load_book.ensures.same clean (λ e. other (told_so c.load_book.result _ StoreFault c.from_residual-in_err-load_book.result c.in_err-load_book.was
+    (c.load_book.ensures.same clean
+    (λ e. other
+    (passed_as c.load_book.result _ StoreFault c.from_residual-in_err-load_book.result c.in_err-load_book.was
     c.from_residual-in_err-load_book.ensures.1 e)))
 
 pub returns-in_err-load_book-clause-explained : goal.returns-in_err-load_book-clause-explained
@@ -49,13 +51,13 @@ returns-in_err-load_book-clause-explained g c clean =
     let version = c.in_ok-version.version in
     let was = c.load_book.ensures.honest clean in
     let on = c.in_ok-version.ensures.on in
-    let told = c.in_ok-version.ensures.told was in
+    let says = c.in_ok-version.ensures.read was in
     let loads = loads_before version s _ c.load_book.result (on.keeps was) (on.same was)
     (c.load_book.ensures.tells clean) in
     passed_on (ExplainsMigration s) c.load_book.result _ c.from_residual-in_err-load_book.result c.in_err-load_book.was
     c.from_residual-in_err-load_book.ensures.1
     (subst (λ (r : Result Book Fault). IfErr r (ExplainsMigration s)) (sym c.in_err-load_book.was)
-    (loaded_explained s version told.0 told.1 told.2
+    (loaded_explained s version says.0 says.1 says.2
     (λ low. ap (λ (d : Database). takes_a_name version d.schema) (sym (on.same was))
     ∙ c.is_name_taken.ensures.no c.if-is_name_taken.false low) _
     (subst (LoadsFrom version s) c.in_err-load_book.was loads)))
@@ -66,11 +68,11 @@ returns-clause-judged g c clean =
     let version = c.in_ok-version.version in
     let was = c.load_book.ensures.honest clean in
     let on = c.in_ok-version.ensures.on in
-    let told = c.in_ok-version.ensures.told was in
+    let says = c.in_ok-version.ensures.read was in
     let loads = loads_before version s _ c.load_book.result (on.keeps was) (on.same was)
     (c.load_book.ensures.tells clean) in (
       _,
-      judged s version told.0 told.1 told.2
+      judged s version says.0 says.1 says.2
           (λ low. ap (λ (d : Database). takes_a_name version d.schema) (sym (on.same was))
           ∙ c.is_name_taken.ensures.no c.if-is_name_taken.false low) _ c.in_ok-load_book.ensures.sound
           (subst (LoadsFrom version s) c.in_ok-load_book.was loads),

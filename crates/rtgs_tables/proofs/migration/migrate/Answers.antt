@@ -3,7 +3,7 @@ use Rattle.sqlite.specs.Held.{state}
 use Rattle.rtgs_book.specs.declared.Fault.TheVariants.{StoreFault}
 use Rattle.rtgs_rows.specs.Migrating.{Migrates}
 use Rattle.rtgs_tables.proofs.Migrating.{explained_migrates, failed_migrates, wrote_migrates, stayed_migrates}
-use Rattle.rtgs_tables.proofs.Judging.{told_so}
+use Rattle.rtgs_tables.proofs.Judging.{passed_as}
 use Rattle.rtgs_tables.proofs.Settling.{leaves_on}
 use Rattle.rtgs_tables.proofs.Migrating.{of_fault, written, unwritten, was_clean, keeps_then, newest_judged}
 use Rattle.rtgs_tables.proofs.Migrating.{memory_of}
@@ -36,7 +36,7 @@ returns-in_err-upgrade-clause-only g c clean written other =
     let old = state g.S.Store c.args.conn.now in
     let mid = state g.S.Store c.judged_version.new.conn in
     let was = was_clean mid (state g.S.Store c.upgrade.new.conn) c.upgrade.ensures.crash clean in
-    let memory = memory_of c.in_err-upgrade.field-0.0 c.in_err-upgrade.ensures.kinds (λ store. other (told_so
+    let memory = memory_of c.in_err-upgrade.field-0.0 c.in_err-upgrade.ensures.kinds (λ store. other (passed_as
     c.upgrade.result _ StoreFault c.from_residual-in_err-upgrade.result c.in_err-upgrade.was
     c.from_residual-in_err-upgrade.ensures.1 (c.in_err-upgrade.was ∙ ap Err store))) in
     let kept = c.upgrade.ensures.memory clean (c.in_err-upgrade.was ∙ ap Err memory) in (

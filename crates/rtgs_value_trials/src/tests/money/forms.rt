@@ -24,15 +24,15 @@ pub fn reads(alloc: Global, form: Form, table: &str) -> Result<(), Fail> {
     for line in lines_of(table)? {
         let (given, said) = sides(line, " = ")?;
         let bytes = bytes_of(alloc, given)?;
-        let told = told(alloc, form, &bytes)?;
-        if told.as_str() != said {
-            return Err(Fail::new(format!(in alloc; "{line}, and not {told}")?));
+        let in_words = in_words(alloc, form, &bytes)?;
+        if in_words.as_str() != said {
+            return Err(Fail::new(format!(in alloc; "{line}, and not {in_words}")?));
         }
     }
     Ok(())
 }
 
-fn told(alloc: Global, form: Form, bytes: &[u8]) -> Result<String, Fail> {
+fn in_words(alloc: Global, form: Form, bytes: &[u8]) -> Result<String, Fail> {
     match form {
         Form::Code => code(alloc, bytes),
         Form::Reference => reference(alloc, bytes),

@@ -149,22 +149,22 @@ fn refusal_after(refusal: Lexical) -> Option<Lexical> {
 }
 
 // The refusal with its number and name, and what it prints.
-fn told(alloc: Global, refusal: Lexical) -> Result<String, Fail> {
+fn in_words(alloc: Global, refusal: Lexical) -> Result<String, Fail> {
     let (number, name) = (refusal.kind().number(), refusal.kind().name());
     Ok(format!(in alloc; "{refusal:?} = {number} {name} {refusal}")?)
 }
 
 // There is a refusal, and it is that of this line.
-fn is_told(alloc: Global, refusal: Option<Lexical>, line: &str) -> Result<(), Fail> {
+fn is_refusal(alloc: Global, refusal: Option<Lexical>, line: &str) -> Result<(), Fail> {
     let refusal = refusal.ok_or("a line after that of the last refusal")?;
-    is(told(alloc, refusal)?.as_str(), line)
+    is(in_words(alloc, refusal)?.as_str(), line)
 }
 
 #[test]
 fn refusals_have_their_numbers_and_names(rt: HostRuntime) -> Result<(), Fail> {
     let mut next = Some(Lexical::BadCode);
     for line in lines_of(REFUSALS)? {
-        is_told(rt.alloc(), next, line)?;
+        is_refusal(rt.alloc(), next, line)?;
         next = next.and_then(refusal_after);
     }
     ensure(next.is_none())

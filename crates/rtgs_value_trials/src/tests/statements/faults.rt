@@ -97,7 +97,6 @@ impl Ended {
     }
 }
 
-// The whole statement.
 fn whole_statement(alloc: Global) -> Result<Vec<u8>, Fail> {
     let mut out = Vec::new(alloc);
     match small_statement(alloc, &mut out)? {
@@ -106,7 +105,6 @@ fn whole_statement(alloc: Global) -> Result<Vec<u8>, Fail> {
     }
 }
 
-// The whole report.
 fn whole_report(alloc: Global) -> Result<Vec<u8>, Fail> {
     let mut out = Vec::new(alloc);
     match small_report(alloc, &mut out)? {

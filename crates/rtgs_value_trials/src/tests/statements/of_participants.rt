@@ -81,7 +81,7 @@ order 9 BETA ALFA B-9 1 2024-03-05 queued
 ";
 
 #[test]
-fn each_order_is_told_by_its_kind(rt: HostRuntime) -> Result<(), Fail> {
+fn each_order_is_shown_by_its_kind(rt: HostRuntime) -> Result<(), Fail> {
     let text = statement(rt.alloc(), "BETA", MONDAY, ORDERS_OF_EACH_KIND)?;
     assert_eq!(rt;
         text.as_str(),
@@ -129,7 +129,7 @@ net                                  0.00
 }
 
 #[test]
-fn an_order_that_entered_is_told_on_that_day(rt: HostRuntime) -> Result<(), Fail> {
+fn an_order_that_entered_is_shown_on_that_day(rt: HostRuntime) -> Result<(), Fail> {
     let text = statement(rt.alloc(), "ALFA", MONDAY, DUE)?;
     assert_eq!(rt;
         text.as_str(),

@@ -85,12 +85,10 @@ fn failing(alloc: Global, reads: usize, trouble: Trouble) -> Result<Shelf, Fail>
     Ok(Shelf::failing(book_of(alloc, RECORDS)?, reads, trouble))
 }
 
-// The whole statement.
 fn whole_statement(alloc: Global) -> Result<Tried, Fail> {
     statement(alloc, Shelf::new(book_of(alloc, RECORDS)?))
 }
 
-// The whole report.
 fn whole_report(alloc: Global) -> Result<Tried, Fail> {
     report(alloc, Shelf::new(book_of(alloc, RECORDS)?))
 }

@@ -13,7 +13,6 @@ use rtgs_statements::Source;
 pub enum Trouble {
     /// The store fails, and every read after it is refused too.
     StoreFault,
-    /// Memory is refused.
     OutOfMemory,
 }
 

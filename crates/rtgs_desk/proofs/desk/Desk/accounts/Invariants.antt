@@ -4,8 +4,8 @@ use Rattle.rtgs_desk.specs.Holding.{HasInMemory}
 use Rattle.rtgs_desk.specs.Readings.{readings_of}
 use Rattle.rtgs_desk.proofs.desk.Desk.accounts.Given as goal
 
--- the first of what is told
+-- the first of what is answered
 abbrev pub invariant-loop-index : goal.invariant-loop-index
 invariant-loop-index g l = record {
-  told : (book : Book) → HasInMemory l.self book → l.readings.items ≡ take l.index (readings_of book);
+  answered : (book : Book) → HasInMemory l.self book → l.readings.items ≡ take l.index (readings_of book);
 }

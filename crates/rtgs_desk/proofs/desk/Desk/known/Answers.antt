@@ -22,8 +22,8 @@ known_account book code (Some a) e is = subst (λ (o : Option Participant). Ok a
     (λ participant. Ok (record { participant = participant; balance = balance book code }))) e
     (λ i. Ok (record { participant = a.participant; balance = is i }))
 
-pub returns-clause-told : goal.returns-clause-told
-returns-clause-told g c book memory works =
+pub returns-clause-answered : goal.returns-clause-answered
+returns-clause-answered g c book memory works =
     let core = core_remembered c.self.inside.keeper c.self.inside.ledger.core c.args.self.now book c.self.view_is memory
     in
     c.ok_or.ensures.value ∙ known_account book c.args.code.now c.account.result (c.account.ensures.participant book

@@ -10,7 +10,7 @@ returns g c book memory balanced =
     in
     let code = c.args.account.now.participant.code in
     let day : c.day.result ≡ book.day = c.day.ensures ∙ day_inside book c.self.inside.ledger.core core in
-    let items : c.in_ok-queue.queue.items ≡ queue book code = c.in_ok-queue.ensures.told book core in
+    let items : c.in_ok-queue.queue.items ≡ queue book code = c.in_ok-queue.ensures.answered book core in
     let queued : c.len.result ≡ length c.in_ok-queue.queue.items = search rules in
     let value : c.value_of.result ≡ pos (value_of c.in_ok-queue.queue.items) = search rules in
     λ j. record {

@@ -1,4 +1,4 @@
-//! Files that chance has changed, and files in which a page is told to stand behind another, or under it, that it
+//! Files that chance has changed, and files in which a page is said to stand behind another, or under it, that it
 //! cannot.
 use super::super::bytes::{Edit, edited};
 use super::super::draw::{Draw, PAGE};
@@ -12,7 +12,7 @@ use std::fs;
 use std::test::Fail;
 
 // What a report on a file may show: the report, or a refusal with its number and one of the rules, and the status.
-const TOLD: &str = "report | > report 2024-03-04\n | \n> marks              2\n
+const ANSWERS: &str = "report | > report 2024-03-04\n | \n> marks              2\n
 = 91 | ! refused 91 StoreFault\nstatus 3\n | =
 = 93 | ! refused 93 NotADeskFile\nstatus 3\n | =
 = 94 | ! refused 94 Inconsistent 1\nstatus 3\n | =
@@ -33,10 +33,10 @@ const TOLD: &str = "report | > report 2024-03-04\n | \n> marks              2\n
 = 94 | ! refused 94 Inconsistent 16\nstatus 3\n | =";
 
 // The word for what a report on a file shows.
-fn told(rt: &HostRuntime, file: &str) -> Result<&'static str, Fail> {
+fn answer_word(rt: &HostRuntime, file: &str) -> Result<&'static str, Fail> {
     let run = run(rt, &["report", file, "2024-03-04"], usize::MAX, usize::MAX);
     let shown = shown_of(rt.alloc(), "desk", "", &run)?;
-    let row = row_of(TOLD, shown.as_str())?;
+    let row = row_of(ANSWERS, shown.as_str())?;
     Ok(column(row, 0))
 }
 
@@ -48,7 +48,7 @@ fn meet(
     met: &mut Vec<&'static str>,
 ) -> Result<(), Fail> {
     write(rt, file, bytes)?;
-    let word = told(rt, file)?;
+    let word = answer_word(rt, file)?;
     has_bytes(rt, file, bytes)?;
     Ok(met.push(word)?)
 }

@@ -75,7 +75,7 @@ fn has(what: What, request: &'static str) -> bool {
     }
 }
 
-// Changes a request, and adds the word for what it is told.
+// Changes a request, and adds the word for its reply.
 fn meet(
     alloc: Global,
     before: &str,

@@ -1,9 +1,9 @@
-//! Hostile inputs one by one, and the number that each is told.
+//! Hostile inputs one by one, and the number that each is answered.
 use super::serving::{before, serve};
 use std::alloc::Global;
 use std::test::Fail;
 
-// Inputs, each below the number that it is told. Each line but the last of one ends as lines of a head do.
+// Inputs, each below the number that it is answered. Each line but the last of one ends as lines of a head do.
 const HEADS: &str = r#"60
 POST /orders HTTP/1.0
 desk-key: 0000000000000000000000000000000a
@@ -61,7 +61,7 @@ fn is_refused(alloc: Global, before: &str, input: &str, number: &str) -> Result<
     if word == number {
         return Ok(());
     }
-    Err(Fail::new(format_args!("{input} is told {word}, not {number}")))
+    Err(Fail::new(format_args!("{input} is answered {word}, not {number}")))
 }
 
 // The input below a number is refused by it.
@@ -104,7 +104,7 @@ fn heads_that_are_refused(rt: HostRuntime) -> Result<(), Fail> {
     are_refused(rt.alloc(), before.as_str(), HEADS)
 }
 
-// Requests of ALFA and of the operator, each below the number that it is told.
+// Requests of ALFA and of the operator, each below the number that it is answered.
 const BODIES: &str = r#"65
 POST /orders HTTP/1.1
 desk-key: 0000000000000000000000000000000a

@@ -1,11 +1,11 @@
-//! What may be told of an input, and whether the bytes of a reply tell it.
+//! What may be answered to an input, and whether the bytes of a reply tell it.
 use super::super::met::{column, row_of};
 use std::alloc::{AllocError, Global};
 use std::test::Fail;
 
-/// What may be told: the number of a refusal, or what was read or done, by how the body begins and ends. Then the
+/// What may be answered: the number of a refusal, or what was read or done, by how the body begins and ends. Then the
 /// status with its reason, and the type of the body.
-pub const TOLD: &str = r#"read | {"amount": |  | 200 OK | application/json
+pub const REPLIES: &str = r#"read | {"amount": |  | 200 OK | application/json
 = read | {"balance": |  | 200 OK | application/json
 = read | {"orders":[ |  | 200 OK | application/json
 = read | statement ALFA 2 |  | 200 OK | text/plain
@@ -59,11 +59,11 @@ fn reply_of(alloc: Global, row: &'static str, body: &str) -> Result<String, Allo
     )
 }
 
-/// The row that tells what a whole reply tells, which bears this status. Each of its bytes is as its body wants it.
-pub fn told_by(alloc: Global, status: &str, reply: &[u8]) -> Result<&'static str, Fail> {
+/// The row that tells what a whole reply tells, which has this status. Each of its bytes is as its body wants it.
+pub fn row_of_reply(alloc: Global, status: &str, reply: &[u8]) -> Result<&'static str, Fail> {
     let text = std::str::from_utf8(reply)?;
     let (_, body) = text.split_once("\r\n\r\n").unwrap_or((text, ""));
-    let row = row_of(TOLD, body)?;
+    let row = row_of(REPLIES, body)?;
     let whole = reply_of(alloc, row, body)?;
     if whole.as_str() == text && column(row, 3).starts_with(status) {
         return Ok(row);

@@ -30,7 +30,6 @@ pub fn good(route: usize) -> &'static str {
     part(GOOD, "\n= ", route % ROUTES)
 }
 
-/// The body of a request.
 pub fn body(request: &'static str) -> &'static str {
     part(request, " | ", 2)
 }

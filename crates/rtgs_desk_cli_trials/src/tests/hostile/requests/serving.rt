@@ -1,6 +1,6 @@
 //! A desk on an open Monday that is automatic, and what one input does to it.
 use super::super::met::column;
-use super::replies::told_by;
+use super::replies::row_of_reply;
 use rtgs_desk::Desk;
 use rtgs_http_banks::{Served, serve_one};
 use rtgs_keeper::Keeper;
@@ -25,12 +25,16 @@ order ALFA A-3 BETA 7 => Ok(Queued { number: 3, place: 2 })";
 const OPERATOR: &[u8] = b"0000000000000000000000000000000f";
 
 // The row that tells what is replied to an input.
-fn told<K: Keeper>(alloc: Global, desk: &mut Desk<K>, input: &[u8]) -> Result<&'static str, Fail> {
+fn row_of_input<K: Keeper>(
+    alloc: Global,
+    desk: &mut Desk<K>,
+    input: &[u8],
+) -> Result<&'static str, Fail> {
     let operator = Key::read(OPERATOR)?.digest();
     let mut reader = input;
     let mut written = Vec::new(alloc);
     match serve_one(alloc, &mut reader, &mut written, desk, &operator) {
-        Served::Answered(status) => told_by(alloc, status.as_str(), written.as_slice()),
+        Served::Answered(status) => row_of_reply(alloc, status.as_str(), written.as_slice()),
         _ => Err(Fail::from("not answered")),
     }
 }
@@ -45,7 +49,7 @@ fn served<K: Keeper + Drop>(
     let mut desk = desk_over(alloc, keeper)?;
     follows(alloc, &mut desk, BEGUN)?;
     let row = match input {
-        Some(input) => told(alloc, &mut desk, input)?,
+        Some(input) => row_of_input(alloc, &mut desk, input)?,
         None => "",
     };
     Ok((row, desk.into_keeper()))

@@ -3,7 +3,7 @@ use Rattle.std.specs.Vec.{with_items}
 use Rattle.std.proofs.lemmas.List.{with_items_is}
 use Rattle.rtgs_gridlock.specs.Choices.{received}
 use Rattle.rtgs_gridlock.specs.Standings.{everything, funds_of, owed_of, AreStandings}
-use Rattle.rtgs_gridlock.specs.declared.standings.Standing.{Standing}
+use Rattle.rtgs_gridlock.specs.declared.standings.Funding.{Funding}
 use Rattle.rtgs_gridlock.proofs.StandingLemmas.{AreStandings-filled}
 use Rattle.rtgs_gridlock.proofs.standings.Standings.fill.Goals as goal
 
@@ -18,10 +18,10 @@ returns-clause-standings c =
     let credited : (with_items (with_items list c.open.new.standings) c.credit_all.new.standings).items
     ≡ c.credit_all.new.standings =
     with_items_is (with_items list c.open.new.standings) c.credit_all.new.standings credited_kept in
-    subst (λ (xs : List Standing). AreStandings c.args.positions.now queues (everything queues) xs) (sym credited)
+    subst (λ (xs : List Funding). AreStandings c.args.positions.now queues (everything queues) xs) (sym credited)
     (AreStandings-filled c.args.positions.now queues c.open.new.standings c.credit_all.new.standings
     c.open.ensures.funds c.open.ensures.owed
-    (λ p b. subst (λ (xs : List Standing). funds_of c.credit_all.new.standings p
+    (λ p b. subst (λ (xs : List Funding). funds_of c.credit_all.new.standings p
     ≡ funds_of xs p + received queues (everything queues) p) opened (c.credit_all.ensures.funds p b))
-    (λ p. subst (λ (xs : List Standing). owed_of c.credit_all.new.standings p ≡ owed_of xs p) opened
+    (λ p. subst (λ (xs : List Funding). owed_of c.credit_all.new.standings p ≡ owed_of xs p) opened
     (c.credit_all.ensures.owed p)))

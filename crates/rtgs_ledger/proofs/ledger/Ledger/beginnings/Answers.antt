@@ -2,7 +2,7 @@ use Rattle.std.proofs.Common.{◌∙◌, ap, slice_index}
 use Rattle.std.proofs.lemmas.List.{drop_all}
 use Rattle.rtgs_ledger.specs.Choosing.{taken_from}
 use Rattle.rtgs_records.specs.Held.{Held}
-use Rattle.rtgs_ledger.proofs.Telling.{all_done}
+use Rattle.rtgs_ledger.proofs.Inputs.{all_done}
 use Rattle.rtgs_ledger.proofs.ledger.Ledger.beginnings.Goals as goal
 
 pub returns : goal.returns

@@ -16,6 +16,6 @@ returns c book is none =
     let found = sym c.get.ensures ∙ c.in-Some.is in
     let had = balance_at (whole book r) of.kept sender c.in-Some.account found
     ∙ ap (λ (b : Book). balance b sender) of.same in
-    let paid = c.value_of.ensures.value ∙ ap value_of (c.as_slice.ensures.value ∙ c.in-Ok.ensures.told book is) in
+    let paid = c.value_of.ensures.value ∙ ap value_of (c.as_slice.ensures.value ∙ c.in-Ok.ensures.answered book is) in
     let short = c.is_short.ensures book is (from_not _ none) in
     omega (arith, ints)

@@ -1,6 +1,6 @@
 use Rattle.std.proofs.Common.{◌∙◌, ap, refl, slice_index, ℕ, List}
 use Rattle.rtgs_ledger.specs.Choosing.{taken_from}
-use Rattle.rtgs_ledger.proofs.Telling.{greatest_taken, records_of}
+use Rattle.rtgs_ledger.proofs.Inputs.{greatest_taken, records_of}
 use Rattle.rtgs_ledger.proofs.ledger.Ledger.chosen_orders.Goals as goal
 
 pub returns : goal.returns

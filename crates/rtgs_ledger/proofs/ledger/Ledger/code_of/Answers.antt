@@ -3,7 +3,7 @@ use Rattle.std.specs.Option.{option_map}
 use Rattle.rtgs_book.specs.declared.participant.Participant.{Participant}
 use Rattle.rtgs_accounts.specs.Accounts.{code_of, participant_of}
 use Rattle.rtgs_records.specs.Held.{Held}
-use Rattle.rtgs_ledger.specs.Keys.{bears}
+use Rattle.rtgs_ledger.specs.Keys.{is_key_of}
 use Rattle.rtgs_ledger.proofs.Keys.{code_of-bearer}
 use Rattle.rtgs_ledger.proofs.ledger.Ledger.code_of.Goals as goal
 
@@ -14,7 +14,8 @@ returns-in-Some c book same =
     ap (λ (h : Held). map participant_of h.core.accounts) c.self.view_is ∙ same in
     ap (option_map code_of) (sym c.in-Some.is ∙ c.bearer.ensures)
     ∙ sym (code_of-bearer c.args.digest.now r.accounts.accounts)
-    ∙ ap (λ (ps : List Participant). option_map (λ (p : Participant). p.code) (find (bears c.args.digest.now) ps)) own
+    ∙ ap (λ (ps : List Participant). option_map (λ (p : Participant). p.code) (find (is_key_of c.args.digest.now) ps))
+    own
 
 pub returns-in-None : goal.returns-in-None
 returns-in-None c book same =
@@ -23,4 +24,5 @@ returns-in-None c book same =
     ap (λ (h : Held). map participant_of h.core.accounts) c.self.view_is ∙ same in
     ap (option_map code_of) (sym c.in-None.is ∙ c.bearer.ensures)
     ∙ sym (code_of-bearer c.args.digest.now r.accounts.accounts)
-    ∙ ap (λ (ps : List Participant). option_map (λ (p : Participant). p.code) (find (bears c.args.digest.now) ps)) own
+    ∙ ap (λ (ps : List Participant). option_map (λ (p : Participant). p.code) (find (is_key_of c.args.digest.now) ps))
+    own

@@ -9,9 +9,9 @@ use Rattle.rtgs_ledger.proofs.Following.{none_again}
 use Rattle.rtgs_ledger.proofs.ledger.Ledger.follow.Goals as goal
 
 pub returns-clause-follows : goal.returns-clause-follows
-returns-clause-follows c book is told =
+returns-clause-follows c book is found =
     let here = subst (IsCoreOf book) (sym c.in_ok-between.ensures) is in
-    let p = c.in_ok-own.ensures.prepared book here told in
+    let p = c.in_ok-own.ensures.prepared book here found in
     let sound = c.own_step_keeps_soundness.ensures book p.book c.args.command.now _ here.sound p.step in
     let fits = c.own_step_keeps_ranges.ensures book p.book c.args.command.now _ c.judge.ensures here.fits p.step in
     let after = c.cores_follow_changes.ensures book p.book c.in_ok-between.between.core c.in_ok-own.own here p.leads
@@ -29,21 +29,23 @@ returns-clause-follows c book is told =
     }
 
 pub returns-in_err-own-clause-refused : goal.returns-in_err-own-clause-refused
-returns-in_err-own-clause-refused c book is told =
+returns-in_err-own-clause-refused c book is found =
     let here = subst (IsCoreOf book) (sym c.in_ok-between.ensures) is in
-    let told_on = err_from_is_err_and c.from_residual-in_err-own.result c.from_residual-in_err-own.ensures.1 in
-    rw (told_on.1, told_on.2) (⊎_elim (λ e. inl e.0) (λ r. inr (inl r.0)) (c.in_err-own.ensures.refused book here told))
+    let passed_on = err_from_is_err_and c.from_residual-in_err-own.result c.from_residual-in_err-own.ensures.1 in
+    rw (passed_on.1, passed_on.2) (⊎_elim (λ e. inl e.0) (λ r. inr (inl r.0))
+    (c.in_err-own.ensures.refused book here found))
 
 pub returns-in_err-settled-clause-refused : goal.returns-in_err-settled-clause-refused
-returns-in_err-settled-clause-refused c book is told =
+returns-in_err-settled-clause-refused c book is found =
     let here = subst (IsCoreOf book) (sym c.in_ok-between.ensures) is in
-    let p = c.in_ok-own.ensures.prepared book here told in
+    let p = c.in_ok-own.ensures.prepared book here found in
     let sound = c.own_step_keeps_soundness.ensures book p.book c.args.command.now _ here.sound p.step in
     let fits = c.own_step_keeps_ranges.ensures book p.book c.args.command.now _ c.judge.ensures here.fits p.step in
     let after = c.cores_follow_changes.ensures book p.book c.in_ok-between.between.core c.in_ok-own.own here p.leads
     sound fits (none_again c.in_ok-own.own c.prepare_own.new.self c.in_ok-own.ensures.room) p.balanced in
     let now = subst (IsCoreOf p.book) (sym (c.adopt.ensures
     ∙ ap (λ (k : Core). core_after k c.in_ok-own.own) c.in_ok-own.ensures.core)) after in
-    let told_on = err_from_is_err_and c.from_residual-in_err-settled.result c.from_residual-in_err-settled.ensures.1 in
-    rw (told_on.1, told_on.2) (⊎_elim (λ e. inl e.0)
+    let passed_on =
+    err_from_is_err_and c.from_residual-in_err-settled.result c.from_residual-in_err-settled.ensures.1 in
+    rw (passed_on.1, passed_on.2) (⊎_elim (λ e. inl e.0)
     (λ r. inr (inr (p.book, c.in_ok-own.field-0-0, p.step, r.0))) (c.in_err-settled.ensures.refused p.book now))

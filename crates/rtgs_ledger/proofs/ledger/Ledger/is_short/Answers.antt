@@ -7,7 +7,7 @@ use Rattle.rtgs_ledger.proofs.Whole.{is_of_book, whole}
 use Rattle.rtgs_ledger.proofs.ledger.Ledger.is_short.Goals as goal
 
 pub returns : goal.returns
-returns c book is told =
+returns c book is short =
     let r = c.self.inside.records in
     let of = is_of_book book r c.args.self.now c.self.view_is is in
     let found = sym c.get.ensures ∙ c.in-Some.is in

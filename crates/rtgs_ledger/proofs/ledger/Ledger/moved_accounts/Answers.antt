@@ -6,7 +6,7 @@ use Rattle.rtgs_book.specs.declared.account.Account.{Account}
 use Rattle.rtgs_records.specs.Held.{Held}
 use Rattle.rtgs_ledger.specs.Resolving.{after_orders, moved_accounts}
 use Rattle.rtgs_ledger.proofs.Settling.{does_move, one_moves, one_stays}
-use Rattle.rtgs_ledger.proofs.Telling.{all_done}
+use Rattle.rtgs_ledger.proofs.Inputs.{all_done}
 use Rattle.rtgs_ledger.proofs.ledger.Ledger.moved_accounts.Goals as goal
 use Rattle.rtgs_ledger.proofs.ledger.Ledger.moved_accounts.Goals.{then-ne+in_ok-push, else-ne}
 

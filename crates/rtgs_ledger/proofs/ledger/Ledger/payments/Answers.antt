@@ -4,7 +4,7 @@ use Rattle.rtgs_book.specs.declared.account.Account.{Account}
 use Rattle.rtgs_accounts.specs.Accounts.{code_of}
 use Rattle.rtgs_ledger.specs.Choosing.{payments_in}
 use Rattle.rtgs_records.specs.Held.{Held}
-use Rattle.rtgs_ledger.proofs.Telling.{all_done}
+use Rattle.rtgs_ledger.proofs.Inputs.{all_done}
 use Rattle.rtgs_ledger.proofs.ledger.Ledger.payments.Goals as goal
 
 pub returns : goal.returns

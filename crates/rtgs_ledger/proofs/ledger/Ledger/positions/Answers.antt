@@ -2,7 +2,7 @@ use Rattle.std.proofs.Common.{◌∙◌, ap, map}
 use Rattle.std.proofs.lemmas.List.{drop_all}
 use Rattle.rtgs_ledger.specs.Choosing.{position_at, positions_in}
 use Rattle.rtgs_records.specs.Held.{Held}
-use Rattle.rtgs_ledger.proofs.Telling.{all_done}
+use Rattle.rtgs_ledger.proofs.Inputs.{all_done}
 use Rattle.rtgs_ledger.proofs.ledger.Ledger.positions.Goals as goal
 
 pub returns : goal.returns

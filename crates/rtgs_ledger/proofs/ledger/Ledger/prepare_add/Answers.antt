@@ -95,14 +95,14 @@ lacking c book is few =
 
 pub returns-in_err-rows-clause-refused : goal.returns-in_err-rows-clause-refused
 returns-in_err-rows-clause-refused c book is =
-    let told = err_from_is_err_and c.from_residual.result c.from_residual.ensures.1 in
-    rw (told.1, told.2) (lacking (goal.at.returns-in_err-rows-clause-refused c).After-len book is
+    let refused = err_from_is_err_and c.from_residual.result c.from_residual.ensures.1 in
+    rw (refused.1, refused.2) (lacking (goal.at.returns-in_err-rows-clause-refused c).After-len book is
     (grind (arith, nat_tests, c.len.ensures, c.if-len-ge-MOST_PARTICIPANTS.false)))
 
 pub returns-in_err-reserve-clause-refused : goal.returns-in_err-reserve-clause-refused
 returns-in_err-reserve-clause-refused c book is =
-    let told = err_from_is_err_and c.from_residual-in_err-reserve.result c.from_residual-in_err-reserve.ensures.1 in
-    rw (told.1, told.2) (lacking (goal.at.returns-in_err-reserve-clause-refused c).After-len book is
+    let refused = err_from_is_err_and c.from_residual-in_err-reserve.result c.from_residual-in_err-reserve.ensures.1 in
+    rw (refused.1, refused.2) (lacking (goal.at.returns-in_err-reserve-clause-refused c).After-len book is
     (grind (arith, nat_tests, c.len.ensures, c.if-len-ge-MOST_PARTICIPANTS.false)))
 
 pub returns-clause-prepared : goal.returns-clause-prepared

@@ -33,13 +33,13 @@ returns-in-Some-clause-refused c book is can =
 
 pub returns-in_err-numbers-clause-refused : goal.returns-in_err-numbers-clause-refused
 returns-in_err-numbers-clause-refused c book is can =
-    let told = err_from_is_err_and c.from_residual.result c.from_residual.ensures.1 in
-    rw (told.1, told.2) (may_lack book c.args.date)
+    let passed = err_from_is_err_and c.from_residual.result c.from_residual.ensures.1 in
+    rw (passed.1, passed.2) (may_lack book c.args.date)
 
 pub returns-in_err-rows-clause-refused : goal.returns-in_err-rows-clause-refused
 returns-in_err-rows-clause-refused c book is can =
-    let told = err_from_is_err_and c.from_residual-in_err-rows.result c.from_residual-in_err-rows.ensures.1 in
-    rw (told.1, told.2) (may_lack book c.args.date)
+    let passed = err_from_is_err_and c.from_residual-in_err-rows.result c.from_residual-in_err-rows.ensures.1 in
+    rw (passed.1, passed.2) (may_lack book c.args.date)
 
 pub returns-clause-room : goal.returns-clause-room
 returns-clause-room c = rw (c.from_vec.ensures, c.in_ok-rows.ensures)

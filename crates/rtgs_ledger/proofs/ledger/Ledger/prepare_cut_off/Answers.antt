@@ -48,8 +48,8 @@ returns-in_err-rows-clause-refused c book is =
     let r = c.self.inside.records in
     let of = is_of_book book r c.args.self.now c.self.view_is is in
     let day = sym c.open_date.ensures ∙ c.in-Some.is in
-    let told = err_from_is_err_and c.from_residual.result c.from_residual.ensures.1 in
-    rw (told.1, told.2) (to_lacking book r c.args.self.now.core of _ _ _
+    let passed = err_from_is_err_and c.from_residual.result c.from_residual.ensures.1 in
+    rw (passed.1, passed.2) (to_lacking book r c.args.self.now.core of _ _ _
     (prepared_cut_off (held_of (whole book r)) of.kept c.args.date
     (sym c.is_cut_off_on.ensures ∙ c.if-is_cut_off_on.false) (open_now (whole book r) of.kept c.in-Some.today day)
     (ap (λ d. is_date d c.args.date) (is_today (whole book r) of.kept c.in-Some.today day)

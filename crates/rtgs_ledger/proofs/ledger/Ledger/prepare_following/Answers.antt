@@ -13,7 +13,7 @@ use Rattle.rtgs_ledger.proofs.Whole.{is_of_book, marks_are_counted}
 use Rattle.rtgs_ledger.proofs.ledger.Ledger.prepare_following.Goals as goal
 
 pub returns-then-not-can_free-clause-prepared : goal.returns-then-not-can_free-clause-prepared
-returns-then-not-can_free-clause-prepared c book is calm told p =
+returns-then-not-can_free-clause-prepared c book is calm found p =
     let k = all_parts (may_free c.args.command.now) (is_done (Ok c.args.own))
     (is_automatic (day_after c.args.self.now.core.day c.args.change)) c.requires.followed in
     let sound = c.own_step_keeps_soundness.ensures book p.book c.args.command.now (Ok c.args.own) is.sound p.step in
@@ -23,28 +23,28 @@ returns-then-not-can_free-clause-prepared c book is calm told p =
     (c.quiet_changes_leave_calm.ensures book p.book is.sound sound frees calm)
 
 pub returns-then-not-counts_marks-clause-refused : goal.returns-then-not-counts_marks-clause-refused
-returns-then-not-counts_marks-clause-refused c book is told p =
+returns-then-not-counts_marks-clause-refused c book is found p =
     let of = is_of_book book c.self.inside.records c.args.self.now c.self.view_is is in
     let counted = c.counts_marks.ensures.1 (marks_are_counted book c.self.inside.records c.args.self.now.core of) in
     let test = c.if-not-counts_marks.true in
     absurd (grind (arith, nat_tests, counted, test))
 
 pub returns-in_err-settled-clause-refused : goal.returns-in_err-settled-clause-refused
-returns-in_err-settled-clause-refused c book is told p =
+returns-in_err-settled-clause-refused c book is found p =
     let k = all_parts (may_free c.args.command.now) (is_done (Ok c.args.own))
     (is_automatic (day_after c.args.self.now.core.day c.args.change)) c.requires.followed in
-    let told_on = err_from_is_err_and c.from_residual.result c.from_residual.ensures.1 in
-    rw (told_on.1, told_on.2) (not_refused c.own_step_is_determined.ensures book c.args.self.now.core
+    let passed_on = err_from_is_err_and c.from_residual.result c.from_residual.ensures.1 in
+    rw (passed_on.1, passed_on.2) (not_refused c.own_step_is_determined.ensures book c.args.self.now.core
     c.args.command.now c.args.own c.args.change is p k.0 c.requires.answered.0 k.1 k.2 c.in_err-settled.field-0.0
-    (c.in_err-settled.ensures.refused book is told))
+    (c.in_err-settled.ensures.refused book is found))
 
 pub returns-in_default-clause-prepared : goal.returns-in_default-clause-prepared
-returns-in_default-clause-prepared c book is calm told p =
+returns-in_default-clause-prepared c book is calm found p =
     let k = all_parts (may_free c.args.command.now) (is_done (Ok c.args.own))
     (is_automatic (day_after c.args.self.now.core.day c.args.change)) c.requires.followed in
     prepared_still c.own_step_is_determined.ensures book c.args.self.now.core c.args.command.now c.args.own
     c.args.change is p k.0 c.requires.answered.0 k.1 k.2 c.in_ok-settled.settled c.in_ok-settled.rows
-    c.in_ok-settled.between.core (c.in_ok-settled.ensures.follows book is told) c.in_ok-settled.ensures.answered.0
+    c.in_ok-settled.between.core (c.in_ok-settled.ensures.follows book is found) c.in_ok-settled.ensures.answered.0
     (sym c.resolution_of.ensures ∙ c.in_default.is)
 
 pub returns-clause-room : goal.returns-clause-room
@@ -64,11 +64,11 @@ returns-clause-answered c =
     ((c.requires.answered.0, λ _. acted), loud c.args.command.now c.args.own _ k.0 c.requires.answered.0 k.1)
 
 pub returns-clause-prepared : goal.returns-clause-prepared
-returns-clause-prepared c book is calm told p =
+returns-clause-prepared c book is calm found p =
     let k = all_parts (may_free c.args.command.now) (is_done (Ok c.args.own))
     (is_automatic (day_after c.args.self.now.core.day c.args.change)) c.requires.followed in
     rw c.in_ok-whole.ensures (prepared_joined c.own_step_is_determined.ensures book c.args.self.now.core
     c.args.command.now c.args.own c.args.change is p k.0 c.requires.answered.0 k.1 k.2 c.changes_join.ensures
     c.new_credit_leaves_the_accounts.ensures c.judge.ensures c.requires.frees c.in_ok-settled.settled
-    c.in_ok-settled.rows c.in_ok-settled.between.core c.in-Some.auto (c.in_ok-settled.ensures.follows book is told)
+    c.in_ok-settled.rows c.in_ok-settled.between.core c.in-Some.auto (c.in_ok-settled.ensures.follows book is found)
     c.in_ok-settled.ensures.settles (sym c.resolution_of.ensures ∙ c.in-Some.is))

@@ -44,7 +44,7 @@ returns-then-is_same_order-clause-prepared c book is found =
     let found_here : c.args.found ≡ order_named (book_of r) c.args.sender c.args.reference = found
     ∙ ap (λ (b : Book). order_named b c.args.sender c.args.reference) (sym of.same) in
     let o = c.in-Some-found.found in
-    let there = is_known r of.kept c.args.sender c.in-Some.debtor (sym c.get.ensures ∙ c.in-Some.is) in
+    let there = is_known r of.kept c.args.sender c.in-Some.sending (sym c.get.ensures ∙ c.in-Some.is) in
     let same = sym c.is_same_order.ensures ∙ c.if-is_same_order.true in
     let step = repeats (book_of r) c.args.sender c.args.reference c.args.receiver c.args.amount c.args.due there o
     (sym found_here ∙ c.in-Some-found.is) same in
@@ -59,7 +59,7 @@ returns-in-Some-found-clause-refused c book is found =
     let found_here : c.args.found ≡ order_named (book_of r) c.args.sender c.args.reference = found
     ∙ ap (λ (b : Book). order_named b c.args.sender c.args.reference) (sym of.same) in
     let o = c.in-Some-found.found in
-    let there = is_known r of.kept c.args.sender c.in-Some.debtor (sym c.get.ensures ∙ c.in-Some.is) in
+    let there = is_known r of.kept c.args.sender c.in-Some.sending (sym c.get.ensures ∙ c.in-Some.is) in
     let other = sym c.is_same_order.ensures ∙ c.if-is_same_order.false in
     to_refused book c.self.inside.records c.args.self.now.core of
     (command.Order c.args.sender c.args.reference c.args.receiver c.args.amount c.args.due) _ (inr (
@@ -75,7 +75,7 @@ returns-in_default-open_date-clause-refused c book is found =
     let r = whole book c.self.inside.records in
     let found_here : c.args.found ≡ order_named (book_of r) c.args.sender c.args.reference = found
     ∙ ap (λ (b : Book). order_named b c.args.sender c.args.reference) (sym of.same) in
-    let there = is_known r of.kept c.args.sender c.in-Some.debtor (sym c.get.ensures ∙ c.in-Some.is) in
+    let there = is_known r of.kept c.args.sender c.in-Some.sending (sym c.get.ensures ∙ c.in-Some.is) in
     to_refused book c.self.inside.records c.args.self.now.core of
     (command.Order c.args.sender c.args.reference c.args.receiver c.args.amount c.args.due) _ (inr (
       not_open (book_of r) c.args.sender c.args.reference c.args.receiver c.args.amount c.args.due there
@@ -91,7 +91,7 @@ returns-in_default-get-clause-refused c book is found =
     let r = whole book c.self.inside.records in
     let found_here : c.args.found ≡ order_named (book_of r) c.args.sender c.args.reference = found
     ∙ ap (λ (b : Book). order_named b c.args.sender c.args.reference) (sym of.same) in
-    let there = is_known r of.kept c.args.sender c.in-Some.debtor (sym c.get.ensures ∙ c.in-Some.is) in
+    let there = is_known r of.kept c.args.sender c.in-Some.sending (sym c.get.ensures ∙ c.in-Some.is) in
     let opened = open_now r of.kept c.in-Some-open_date.date (sym c.open_date.ensures ∙ c.in-Some-open_date.is)
     in
     to_refused book c.self.inside.records c.args.self.now.core of
@@ -109,10 +109,10 @@ returns-then-eq-clause-refused c book is found =
     let r = whole book c.self.inside.records in
     let found_here : c.args.found ≡ order_named (book_of r) c.args.sender c.args.reference = found
     ∙ ap (λ (b : Book). order_named b c.args.sender c.args.reference) (sym of.same) in
-    let there = is_known r of.kept c.args.sender c.in-Some.debtor (sym c.get.ensures ∙ c.in-Some.is) in
+    let there = is_known r of.kept c.args.sender c.in-Some.sending (sym c.get.ensures ∙ c.in-Some.is) in
     let opened = open_now r of.kept c.in-Some-open_date.date (sym c.open_date.ensures ∙ c.in-Some-open_date.is)
     in
-    let receiver = is_known r of.kept c.args.receiver c.in-Some-get.creditor
+    let receiver = is_known r of.kept c.args.receiver c.in-Some-get.receiving
     (sym c.get-2.ensures ∙ c.in-Some-get.is) in
     to_refused book c.self.inside.records c.args.self.now.core of
     (command.Order c.args.sender c.args.reference c.args.receiver c.args.amount c.args.due) _ (inr (
@@ -128,10 +128,10 @@ returns-in_err-check_due-clause-refused c book is found =
     let r = whole book c.self.inside.records in
     let found_here : c.args.found ≡ order_named (book_of r) c.args.sender c.args.reference = found
     ∙ ap (λ (b : Book). order_named b c.args.sender c.args.reference) (sym of.same) in
-    let there = is_known r of.kept c.args.sender c.in-Some.debtor (sym c.get.ensures ∙ c.in-Some.is) in
+    let there = is_known r of.kept c.args.sender c.in-Some.sending (sym c.get.ensures ∙ c.in-Some.is) in
     let opened = open_now r of.kept c.in-Some-open_date.date (sym c.open_date.ensures ∙ c.in-Some-open_date.is)
     in
-    let receiver = is_known r of.kept c.args.receiver c.in-Some-get.creditor
+    let receiver = is_known r of.kept c.args.receiver c.in-Some-get.receiving
     (sym c.get-2.ensures ∙ c.in-Some-get.is) in
     let given = err_from_is_err_and c.from_residual.result c.from_residual.ensures.1 in
     rw (given.1, given.2) (to_refused book c.self.inside.records c.args.self.now.core of
@@ -148,10 +148,10 @@ returns-then-next-clause-refused c book is found =
     let r = whole book c.self.inside.records in
     let found_here : c.args.found ≡ order_named (book_of r) c.args.sender c.args.reference = found
     ∙ ap (λ (b : Book). order_named b c.args.sender c.args.reference) (sym of.same) in
-    let there = is_known r of.kept c.args.sender c.in-Some.debtor (sym c.get.ensures ∙ c.in-Some.is) in
+    let there = is_known r of.kept c.args.sender c.in-Some.sending (sym c.get.ensures ∙ c.in-Some.is) in
     let opened = open_now r of.kept c.in-Some-open_date.date (sym c.open_date.ensures ∙ c.in-Some-open_date.is)
     in
-    let receiver = is_known r of.kept c.args.receiver c.in-Some-get.creditor
+    let receiver = is_known r of.kept c.args.receiver c.in-Some-get.receiving
     (sym c.get-2.ensures ∙ c.in-Some-get.is) in
     let many : nat_le LARGEST_NUMBER (length r.orders)
     ≡ true = (let next = c.next.ensures ∙ of.orders in let test = c.if-next.true in grind
@@ -166,15 +166,15 @@ returns-then-next-clause-refused c book is found =
     ))
 
 -- whether it settles at once, as the definition says
-settles_is_told : (c : After-settles_now) (book : Book) → IsCoreOf book c.args.self.now.core
+settles_is_answered : (c : After-settles_now) (book : Book) → IsCoreOf book c.args.self.now.core
     → settles_now (book_of (whole book c.self.inside.records)) c.args.sender c.args.amount c.args.due
     ≡ c.settles_now.result
-settles_is_told c book is =
+settles_is_answered c book is =
     let of = is_of_book book c.self.inside.records c.args.self.now c.self.view_is is in
     let r = whole book c.self.inside.records in
     let numbers = numbers_are c.queues_are_of_the_waiting.ensures book.orders c.self.inside.records.orders.orders
-    (code_of c.in-Some.debtor) of.waiting in
-    ap (λ b. is_none c.args.due && b) (settles_is r of.kept c.args.sender c.in-Some.debtor c.args.amount
+    (code_of c.in-Some.sending) of.waiting in
+    ap (λ b. is_none c.args.due && b) (settles_is r of.kept c.args.sender c.in-Some.sending c.args.amount
     (sym c.get.ensures ∙ c.in-Some.is))
     ∙ (rw numbers at (sym c.settles_now.ensures.value))
 
@@ -194,7 +194,7 @@ taken c book is found room =
     ≡ false = (let next = c.next.ensures ∙ of.orders in let test = c.if-next.false in
     grind (arith, nat_tests, next, test)) in
     order_taken book c.self.inside.records c.args.self.now.core of c.args.sender c.args.reference
-    c.args.receiver c.args.amount c.in-Some-open_date.date c.args.due c.in-Some.debtor c.in-Some-get.creditor
+    c.args.receiver c.args.amount c.in-Some-open_date.date c.args.due c.in-Some.sending c.in-Some-get.receiving
     c.next_order-order.result
     (rw c.date_of-order_date.ensures at c.next_order-order.ensures) (sym c.get.ensures ∙ c.in-Some.is)
     (sym found_here ∙ c.in_default-found.is)
@@ -207,7 +207,7 @@ pub returns-then-settles_now-clause-prepared : goal.returns-then-settles_now-cla
 returns-then-settles_now-clause-prepared c book is found =
     let of = is_of_book book c.self.inside.records c.args.self.now c.self.view_is is in
     let here = (goal.at.returns-then-settles_now-clause-prepared c).After-settles_now in
-    let settles = settles_is_told here book is ∙ c.if-settles_now.true in
+    let settles = settles_is_answered here book is ∙ c.if-settles_now.true in
     let both = and_parts (is_none c.args.due) _ settles in
     let direct = none_is c.args.due both.0 in
     let o = c.next_order-order.result in
@@ -215,9 +215,9 @@ returns-then-settles_now-clause-prepared c book is found =
     rw c.next_order-order.ensures (subst (λ (b : Book). settles_at_once b c.args.sender c.args.amount
     ≡ true) of.same both.1)
     in
-    let from_it : find (is_of o.sender) c.args.self.now.core.accounts ≡ Some c.in-Some.debtor =
+    let from_it : find (is_of o.sender) c.args.self.now.core.accounts ≡ Some c.in-Some.sending =
     rw (c.next_order-order.ensures, ← of.accounts) (sym c.get.ensures ∙ c.in-Some.is) in
-    let to_it : find (is_of o.receiver) c.args.self.now.core.accounts ≡ Some c.in-Some-get.creditor =
+    let to_it : find (is_of o.receiver) c.args.self.now.core.accounts ≡ Some c.in-Some-get.receiving =
     rw (c.next_order-order.ensures, ← of.accounts) (sym c.get-2.ensures ∙ c.in-Some-get.is) in
     let direct_it : o.due ≡ None = rw c.next_order-order.ensures direct in
     rw c.next_order-order.ensures at (c.prepare_settled.ensures.prepared book is
@@ -226,14 +226,14 @@ returns-then-settles_now-clause-prepared c book is found =
 pub returns-then-settles_now-clause-refused : goal.returns-then-settles_now-clause-refused
 returns-then-settles_now-clause-refused c book is found =
     let here = (goal.at.returns-then-settles_now-clause-refused c).After-settles_now in
-    let settles = settles_is_told here book is ∙ c.if-settles_now.true in
+    let settles = settles_is_answered here book is ∙ c.if-settles_now.true in
     rw c.next_order-order.ensures at (c.prepare_settled.ensures.refused book is
     (taken here book is found (rw settles refl)))
 
 -- all of its sender's orders that wait are counted
-count_is_told : (c : After-count) (book : Book) → IsCoreOf book c.args.self.now.core
+count_is_answered : (c : After-count) (book : Book) → IsCoreOf book c.args.self.now.core
     → c.count.result ≡ length (waiting (book_of (whole book c.self.inside.records)) c.args.sender)
-count_is_told c book is =
+count_is_answered c book is =
     let of = is_of_book book c.self.inside.records c.args.self.now c.self.view_is is in
     c.count.ensures
     ∙ waiting_all (book_of (whole book c.self.inside.records)) c.self.inside.records.orders.orders c.args.sender
@@ -249,20 +249,20 @@ returns-then-count-ge-LONGEST_QUEUE-clause-refused c book is found =
     let from = sym c.get.ensures ∙ c.in-Some.is in
     let opened = open_now r of.kept c.in-Some-open_date.date (sym c.open_date.ensures ∙ c.in-Some-open_date.is)
     in
-    let receiver = is_known r of.kept c.args.receiver c.in-Some-get.creditor
+    let receiver = is_known r of.kept c.args.receiver c.in-Some-get.receiving
     (sym c.get-2.ensures ∙ c.in-Some-get.is) in
     let few : nat_le LARGEST_NUMBER (length r.orders)
     ≡ false = (let next = c.next.ensures ∙ of.orders in let test = c.if-next.false in grind
     (arith, nat_tests, next, test)) in
     let here = goal.at.returns-then-count-ge-LONGEST_QUEUE-clause-refused c in
-    let waits = settles_is_told here.After-settles_now book is ∙ c.if-settles_now.false in
-    let long = count_is_told here.After-count book is in
+    let waits = settles_is_answered here.After-settles_now book is ∙ c.if-settles_now.false in
+    let long = count_is_answered here.After-count book is in
     let full : nat_le LONGEST_QUEUE (length (waiting (book_of r) c.args.sender))
     ≡ true = grind (arith, nat_tests, long, c.if-count-ge-LONGEST_QUEUE.true) in
     to_refused book c.self.inside.records c.args.self.now.core of
     (command.Order c.args.sender c.args.reference c.args.receiver c.args.amount c.args.due) _ (inr (
       queue_full (book_of r) c.args.sender c.args.reference c.args.receiver c.args.amount c.args.due
-          (is_known r of.kept c.args.sender c.in-Some.debtor from) (sym found_here ∙ c.in_default-found.is)
+          (is_known r of.kept c.args.sender c.in-Some.sending from) (sym found_here ∙ c.in_default-found.is)
           opened receiver (sym c.eq.ensures ∙ c.if-eq.false)
           (too_early_is (book_of r) c.args.due _ c.in_ok-check_due.ensures.passed.0)
           c.in_ok-check_due.ensures.passed.1 few waits full,
@@ -274,8 +274,8 @@ returns-clause-prepared c book is found =
     let of = is_of_book book c.self.inside.records c.args.self.now c.self.view_is is in
     let r = whole book c.self.inside.records in
     let here = goal.at.returns-clause-prepared c in
-    let waits = settles_is_told here.After-settles_now book is ∙ c.if-settles_now.false in
-    let long = count_is_told here.After-count book is in
+    let waits = settles_is_answered here.After-settles_now book is ∙ c.if-settles_now.false in
+    let long = count_is_answered here.After-count book is in
     let short : nat_le LONGEST_QUEUE (length (waiting (book_of r) c.args.sender))
     ≡ false = grind (arith, nat_tests, long, c.if-count-ge-LONGEST_QUEUE.false) in
     let o = c.next_order-order.result in
@@ -290,7 +290,7 @@ pub returns-clause-refused : goal.returns-clause-refused
 returns-clause-refused c book is found =
     let r = whole book c.self.inside.records in
     let here = goal.at.returns-clause-refused c in
-    let long = count_is_told here.After-count book is in
+    let long = count_is_answered here.After-count book is in
     let short : nat_le LONGEST_QUEUE (length (waiting (book_of r) c.args.sender))
     ≡ false = grind (arith, nat_tests, long, c.if-count-ge-LONGEST_QUEUE.false) in
     rw c.next_order-order.ensures at (c.prepare_waiting.ensures.refused book

@@ -175,8 +175,8 @@ posted c book is found enough =
 pub returns-in_err-rows-clause-refused : goal.returns-in_err-rows-clause-refused
 returns-in_err-rows-clause-refused c book is found =
     let of = is_of_book book c.self.inside.records c.args.self.now c.self.view_is is in
-    let told = err_from_is_err_and c.from_residual.result c.from_residual.ensures.1 in
-    rw (told.1, told.2) (to_lacking book c.self.inside.records c.args.self.now.core of _ _ _
+    let refused = err_from_is_err_and c.from_residual.result c.from_residual.ensures.1 in
+    rw (refused.1, refused.2) (to_lacking book c.self.inside.records c.args.self.now.core of _ _ _
     (posted (goal.at.returns-in_err-rows-clause-refused c).After-is_uncovered book is found c.if-is_uncovered.false)
     refl)
 

@@ -36,8 +36,8 @@ returns-in_err-rows-clause-refused c book is =
     let found = sym c.get.ensures ∙ c.in-Some.is in
     let within = rw (balance_at (whole book r) of.kept c.args.code c.in-Some.account found) at
     (sym c.is_past_limit.ensures.value ∙ c.if-is_past_limit.false) in
-    let told = err_from_is_err_and c.from_residual.result c.from_residual.ensures.1 in
-    rw (told.1, told.2) (to_lacking book r c.args.self.now.core of _ _ _
+    let passed = err_from_is_err_and c.from_residual.result c.from_residual.ensures.1 in
+    rw (passed.1, passed.2) (to_lacking book r c.args.self.now.core of _ _ _
     (prepared_credit (held_of (whole book r)) of.kept c.args.code c.args.credit c.is_past_limit.ensures.fits
     (is_known (whole book r) of.kept c.args.code c.in-Some.account found) within) refl)
 

@@ -23,8 +23,8 @@ returns-then-not-counts_marks-clause-refused c book is taken =
 
 pub returns-in_err-rows-clause-refused : goal.returns-in_err-rows-clause-refused
 returns-in_err-rows-clause-refused c book is taken =
-    let told = err_from_is_err_and c.from_residual.result c.from_residual.ensures.1 in
-    rw (told.1, told.2) (inl (refl, λ _. taken_acts book c.args.order.now taken))
+    let passed = err_from_is_err_and c.from_residual.result c.from_residual.ensures.1 in
+    rw (passed.1, passed.2) (inl (refl, λ _. taken_acts book c.args.order.now taken))
 
 pub returns-clause-prepared : goal.returns-clause-prepared
 unfolding mark_of
@@ -33,24 +33,24 @@ returns-clause-prepared c book is taken direct settles from to =
     let of = is_of_book book r c.args.self.now c.self.view_is is in
     let w = whole book r in
     let o = c.args.order.now in
-    let debtor = c.args.debtor.now in
-    let creditor = c.args.creditor.now in
+    let sending = c.args.sending.now in
+    let receiving = c.args.receiving.now in
     let taken_here : IsTaken (book_of w) o = subst (λ (b : Book). IsTaken b o) (sym of.same) taken in
     let settles_here = subst (λ (b : Book). settles_at_once b o.sender o.amount ≡ true) (sym of.same) settles in
-    let from_here : find (is_of o.sender) r.accounts.accounts ≡ Some debtor = rw of.accounts from in
-    let to_here : find (is_of o.receiver) r.accounts.accounts ≡ Some creditor = rw of.accounts to in
+    let from_here : find (is_of o.sender) r.accounts.accounts ≡ Some sending = rw of.accounts from in
+    let to_here : find (is_of o.receiver) r.accounts.accounts ≡ Some receiving = rw of.accounts to in
     let small = c.balances_are_small.ensures (book_of w) of.kept.sound of.kept.fits in
-    let debtor_fits = balance_fits w of.kept small o.sender debtor from_here in
-    let creditor_fits = balance_fits w of.kept small o.receiver creditor to_here in
+    let sending_fits = balance_fits w of.kept small o.sender sending from_here in
+    let receiving_fits = balance_fits w of.kept small o.receiver receiving to_here in
     let amount = taken.fits.1 in
-    let less : c.with_less-debited.result ≡ debtor.balance -ℤ pos o.amount = c.with_less-debited.ensures
-    (let low = debtor_fits.0 in let high = debtor_fits.1 in omega (arith, ints)) in
-    let more : c.with_more-credited.result ≡ creditor.balance +ℤ pos o.amount = c.with_more-credited.ensures
-    (let low = creditor_fits.0 in let high = creditor_fits.1 in omega (arith, ints)) in
+    let less : c.with_less-debited.result ≡ sending.balance -ℤ pos o.amount = c.with_less-debited.ensures
+    (let low = sending_fits.0 in let high = sending_fits.1 in omega (arith, ints)) in
+    let more : c.with_more-credited.result ≡ receiving.balance +ℤ pos o.amount = c.with_more-credited.ensures
+    (let low = receiving_fits.0 in let high = receiving_fits.1 in omega (arith, ints)) in
     let mark : c.next_mark-mark.result ≡ mark_of (book_of w) (o ∷ []) = c.next_mark-mark.ensures
     ∙ rw (of.marks, one_mark (book_of w) o taken_here.next direct) refl in
     rw (c.from_vec.ensures, c.in_ok-rows.ensures, mark) (to_prepared book r c.args.self.now.core of _ _ _
-    (prepared_settled (held_of w) of.kept o taken_here debtor creditor from_here to_here
+    (prepared_settled (held_of w) of.kept o taken_here sending receiving from_here to_here
     c.with_less-debited.result c.with_more-credited.result less more
     direct settles_here))
 

@@ -28,10 +28,10 @@ returns-clause-prepared c book is taken waits =
 
 pub returns-in_err-rows-clause-refused : goal.returns-in_err-rows-clause-refused
 returns-in_err-rows-clause-refused c book taken =
-    let told = err_from_is_err_and c.from_residual.result c.from_residual.ensures.1 in
-    rw (told.1, told.2) (inl (refl, λ _. taken_acts book c.args.order taken))
+    let passed = err_from_is_err_and c.from_residual.result c.from_residual.ensures.1 in
+    rw (passed.1, passed.2) (inl (refl, λ _. taken_acts book c.args.order taken))
 
 pub returns-in_err-reserve-clause-refused : goal.returns-in_err-reserve-clause-refused
 returns-in_err-reserve-clause-refused c book taken =
-    let told = err_from_is_err_and c.from_residual-in_err-reserve.result c.from_residual-in_err-reserve.ensures.1 in
-    rw (told.1, told.2) (inl (refl, λ _. taken_acts book c.args.order taken))
+    let passed = err_from_is_err_and c.from_residual-in_err-reserve.result c.from_residual-in_err-reserve.ensures.1 in
+    rw (passed.1, passed.2) (inl (refl, λ _. taken_acts book c.args.order taken))

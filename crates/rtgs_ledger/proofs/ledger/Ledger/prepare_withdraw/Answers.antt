@@ -77,8 +77,8 @@ returns-in_err-rows-clause-refused c book is found =
     ∙ ap (λ (b : Book). order_named b c.args.sender c.args.reference) (sym of.same) in
     let o = c.in-Some-found.found in
     let there = is_known r of.kept c.args.sender c.in-Some.field-0 (sym c.get.ensures ∙ c.in-Some.is) in
-    let told = err_from_is_err_and c.from_residual.result c.from_residual.ensures.1 in
-    rw (told.1, told.2) (to_lacking book c.self.inside.records c.args.self.now.core of
+    let passed = err_from_is_err_and c.from_residual.result c.from_residual.ensures.1 in
+    rw (passed.1, passed.2) (to_lacking book c.self.inside.records c.args.self.now.core of
     _ _ _ (prepared_withdraw (held_of r) of.kept c.balance_after_restating.ensures
     c.numbers_lead_to_orders.ensures c.args.sender c.args.reference o
     (sym found_here ∙ c.in-Some-found.is) (is_waited o.state c.in-Queued.is).1

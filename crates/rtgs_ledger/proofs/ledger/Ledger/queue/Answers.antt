@@ -49,8 +49,8 @@ returns-clause-orders c =
     (omega (arith, many, c.loop-number-test.false))
     ∙ ap (λ (h : Held). queued_among h.core.waiting sender) c.self.view_is
 
-pub returns-clause-told : goal.returns-clause-told
-returns-clause-told c book is =
+pub returns-clause-answered : goal.returns-clause-answered
+returns-clause-answered c book is =
     let orders = c.self.inside.records.orders.orders in
     let sender = c.args.sender.now in
     let many : length c.queue-numbers.result.now ≡ length (queued_among orders sender) =

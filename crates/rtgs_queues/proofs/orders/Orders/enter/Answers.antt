@@ -7,7 +7,7 @@ use Rattle.rtgs_book.specs.Books.{is_held, is_waiting, is_queued_state}
 use Rattle.rtgs_book.specs.Commands.{entered, has_number, is_held_with}
 use Rattle.rtgs_book.specs.Settle.{altered}
 use Rattle.rtgs_queues.specs.Orders.{IsKept, HasNumberAt}
-use Rattle.rtgs_queues.specs.Queues.{AreInOrder, numbers_of}
+use Rattle.rtgs_queues.specs.QueueNumbers.{AreInOrder, numbers_of}
 use Rattle.rtgs_queues.proofs.OrderLemmas.{kept_entered, kept_roomy, none_entered, numbers_rise, one_altered}
 use Rattle.rtgs_queues.proofs.OrderLemmas.{only_one, recursion_from, waiting_entered}
 use Rattle.rtgs_lists.proofs.Lists.{all_at_place, all_filter}

@@ -17,10 +17,10 @@ returns-then-not-are_short c = (
       let lengths = subst (λ (ps : List Participant). Totals (slice_cmp nat_cmp) (map (λ (p : Participant). p.code) ps)
       (λ code. pos (length (waiting c.args.book.now code))) c.in_ok-lengths.lengths) (sym same)
       c.in_ok-lengths.ensures in
-      let told = subst (λ (ps : List Participant). (c.are_short.result ≡ true) ↔ AllByRecursion
+      let judged = subst (λ (ps : List Participant). (c.are_short.result ≡ true) ↔ AllByRecursion
       (λ (p : Participant). pos (length (waiting c.args.book.now p.code)) ≤ℤ pos LONGEST_QUEUE) ps) same
       (c.are_short.ensures (λ code. pos (length (waiting c.args.book.now code))) lengths) in
-      absurd (true≢false (sym (told.1 (long_queue c.args.book.now fit)) ∙ c.if-not-are_short.true)),
+      absurd (true≢false (sym (judged.1 (long_queue c.args.book.now fit)) ∙ c.if-not-are_short.true)),
 )
 
 pub returns : goal.returns
@@ -30,7 +30,7 @@ returns c =
     let lengths = subst (λ (ps : List Participant). Totals (slice_cmp nat_cmp) (map (λ (p : Participant). p.code) ps)
     (λ code. pos (length (waiting c.args.book.now code))) c.in_ok-lengths.lengths) (sym same) c.in_ok-lengths.ensures
     in
-    let told = subst (λ (ps : List Participant). (c.are_short.result ≡ true) ↔ AllByRecursion
+    let judged = subst (λ (ps : List Participant). (c.are_short.result ≡ true) ↔ AllByRecursion
     (λ (p : Participant). pos (length (waiting c.args.book.now p.code)) ≤ℤ pos LONGEST_QUEUE) ps) same
     (c.are_short.ensures (λ code. pos (length (waiting c.args.book.now code))) lengths) in
-    queues_of c.args.book.now c.are_queued_today.result (told.0 c.if-not-are_short.false) c.are_queued_today.ensures
+    queues_of c.args.book.now c.are_queued_today.result (judged.0 c.if-not-are_short.false) c.are_queued_today.ensures

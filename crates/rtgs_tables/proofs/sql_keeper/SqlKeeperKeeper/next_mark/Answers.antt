@@ -10,12 +10,12 @@ use Rattle.rtgs_tables.proofs.sql_keeper.SqlKeeperKeeper.next_mark.Goals as goal
 pub returns-clause-found : goal.returns-clause-found
 unfolding mark_after
 returns-clause-found g c clean book held =
-    let told = ap (λ d. first_of_date (λ (m : Mark). m.number) (λ (m : Mark). m.date) d c.args.number
+    let same_date = ap (λ d. first_of_date (λ (m : Mark). m.number) (λ (m : Mark). m.date) d c.args.number
     book.marks) c.number.ensures.value in
     IfOk-weaker c.next_of-found.result (λ found. found ≡ first_of_date (λ (m : Mark). m.number)
     (λ (m : Mark). m.date) c.number.result c.args.number book.marks)
     (λ found. found ≡ mark_after book c.args.date c.args.number)
-    (λ found is. is ∙ told)
+    (λ found is. is ∙ same_date)
     (c.next_of-found.ensures.found clean book held (c.records_are_listed.ensures.marks book held.2.sound))
 
 pub returns-clause-reads : goal.returns-clause-reads

@@ -9,12 +9,12 @@ use Rattle.rtgs_tables.proofs.sql_keeper.SqlKeeperKeeper.next_posting.Goals as g
 
 pub returns-clause-found : goal.returns-clause-found
 returns-clause-found g c clean book held =
-    let told = ap (λ d. first_of_date (λ (p : Posting). p.number) date_of_posting d c.args.number
+    let same_date = ap (λ d. first_of_date (λ (p : Posting). p.number) date_of_posting d c.args.number
     book.postings) c.number.ensures.value in
     IfOk-weaker c.next_of-found.result (λ found. found ≡ first_of_date (λ (p : Posting). p.number)
     date_of_posting c.number.result c.args.number book.postings)
     (λ found. found ≡ posting_after book c.args.date c.args.number)
-    (λ found is. is ∙ told
+    (λ found is. is ∙ same_date
     ∙ posting_of_date book c.args.date c.args.number (some_date c.args.date c.number.ensures.in_range))
     (c.next_of-found.ensures.found clean book held (c.records_are_listed.ensures.postings book held.2.sound))
 

@@ -29,8 +29,8 @@ returns-in-Ok-clause-read g c = reads g.K.Keeper _ _ _ (looked_up g.K.Keeper
     (record { reads = c.next_mark.ensures.reads; kinds = c.next_mark.ensures.kinds })
     c.in-Ok.next c.in-Ok.is)
 
-pub returns-in-Ok-clause-told : goal.returns-in-Ok-clause-told
-returns-in-Ok-clause-told g c honest book held = c.in-Ok.ensures.found honest book
+pub returns-in-Ok-clause-found : goal.returns-in-Ok-clause-found
+returns-in-Ok-clause-found g c honest book held = c.in-Ok.ensures.found honest book
     (kept_inside g.K.Keeper c.self.inside.keeper c.self.inside.ledger.core c.args.self.now book c.self.view_is held)
 
 pub returns-in-Err-clause-read : goal.returns-in-Err-clause-read

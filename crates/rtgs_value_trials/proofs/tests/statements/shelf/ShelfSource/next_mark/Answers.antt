@@ -4,8 +4,8 @@ use Rattle.rtgs_book.specs.declared.Book.{Book}
 use Rattle.rtgs_cores.specs.Nexts.{mark_after, is_mark_after}
 use Rattle.rtgs_value_trials.proofs.tests.statements.shelf.ShelfSource.next_mark.Goals as goal
 
-pub returns-clause-told : goal.returns-clause-told
+pub returns-clause-found : goal.returns-clause-found
 unfolding mark_after
-returns-clause-told c honest book held = c.mark_after.ensures
+returns-clause-found c honest book held = c.mark_after.ensures
     ∙ ap (find (is_mark_after c.args.date c.args.number)) c.as_slice.ensures
     ∙ ap (λ (b : Book). find (is_mark_after c.args.date c.args.number) b.marks) (c.read.ensures.book ∙ held.0)

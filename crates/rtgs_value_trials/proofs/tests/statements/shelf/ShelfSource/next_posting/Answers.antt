@@ -4,8 +4,8 @@ use Rattle.rtgs_book.specs.declared.Book.{Book}
 use Rattle.rtgs_cores.specs.Nexts.{posting_after, is_posting_after}
 use Rattle.rtgs_value_trials.proofs.tests.statements.shelf.ShelfSource.next_posting.Goals as goal
 
-pub returns-clause-told : goal.returns-clause-told
+pub returns-clause-found : goal.returns-clause-found
 unfolding posting_after
-returns-clause-told c honest book held = c.posting_after.ensures
+returns-clause-found c honest book held = c.posting_after.ensures
     ∙ ap (find (is_posting_after c.args.date c.args.number)) c.as_slice.ensures
     ∙ ap (λ (b : Book). find (is_posting_after c.args.date c.args.number) b.postings) (c.read.ensures.book ∙ held.0)

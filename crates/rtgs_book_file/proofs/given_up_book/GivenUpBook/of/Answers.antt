@@ -1,7 +1,0 @@
-use Rattle.std.proofs.Common.{sym, subst}
-use Rattle.rtgs_book_file.specs.Closed.{LeavesNoMore}
-use Rattle.rtgs_book_file.proofs.given_up_book.GivenUpBook.of.Goals as goal
-
-pub returns : goal.returns
-returns g c = subst (λ files. LeavesNoMore c.args.conn files.value) (sym c.files.ensures)
-    (subst (LeavesNoMore c.args.conn) (sym c.of-gone.ensures) c.files_given_up.ensures)

@@ -1,7 +1,0 @@
-use Rattle.std.proofs.Common.{sym}
-use Rattle.rtgs_book_file.proofs.given_up_book.files_given_up.Goals as goal
-
-pub returns : goal.returns
-returns g c =
-    let it = c.into_store.ensures in
-    (c.into_store.result, record { quiet = it.quiet; sound = it.sound }, sym c.close.ensures)

@@ -1,0 +1,87 @@
+//! What the desk reads.
+ghost use Rattle.std.specs.Prelude.{◌≡◌, map, IfOk, IfSome, slice_get};
+ghost use Rattle.std.specs.Option.{option_map};
+ghost use Rattle.rtgs_book.specs.declared.book.Book.{Book};
+ghost use Rattle.rtgs_book.specs.Balance.{balance};
+ghost use Rattle.rtgs_book.specs.Lookup.{accounts};
+ghost use Rattle.rtgs_book.specs.Lookup as lookup;
+ghost use Rattle.rtgs_book.specs.Queue.{queue, queued_among};
+ghost use Rattle.rtgs_book.specs.Soundness.{IsSound};
+ghost use Rattle.rtgs_cores.specs.Cores.{IsCoreOf};
+ghost use Rattle.rtgs_accounts.specs.Accounts.{participant_of};
+ghost use Rattle.rtgs_ledger.specs.Alone.{book_of_participants};
+ghost use Rattle.rtgs_ledger.specs.Keys.{code_under};
+
+use super::Ledger;
+use rtgs_book::{Account, Day, Order};
+use rtgs_money::{BusinessDate, Code, KeyDigest};
+use rtgs_queues::laws::queues_are_of_the_waiting;
+use std::alloc::AllocError;
+
+impl Ledger {
+    /// The participant with this code and its balance, if there is one.
+    pub fn account(&self, code: &Code) -> Option<Account>
+        ensures participant { (book : Book) → IsCoreOf book self.now.core
+            → option_map participant_of result ≡ lookup.participant_of book code.now }
+        ensures balance { (book : Book) → IsCoreOf book self.now.core
+            → IfSome result (λ account. account.balance ≡ balance book code.now) }
+    {
+        self.records.accounts.get(code)
+    }
+
+    /// The code of the participant whose key has this digest, if there is one.
+    pub fn code_of(&self, digest: &KeyDigest) -> Option<Code>
+        ensures { (book : Book) → map participant_of self.now.core.accounts ≡ book.participants
+            → result ≡ code_under book digest.now }
+    {
+        match self.records.accounts.bearer(digest) {
+            Some(account) => Some(account.participant.code),
+            None => None,
+        }
+    }
+
+    /// All orders in memory: those that are queued or held, in rising number.
+    pub fn waiting(&self) -> &[Order]
+        ensures { result.now ≡ self.now.core.waiting }
+    {
+        self.records.orders.as_slice()
+    }
+
+    /// The queued orders of the sender, in their order. It answers lack of memory.
+    pub fn queue(&self, sender: &Code) -> Result<Vec<Order>, AllocError>
+        ensures orders { IfOk result (λ orders. orders.items ≡ queued_among self.now.core.waiting sender.now) }
+        ensures answered { (book : Book) → IsCoreOf book self.now.core
+            → IfOk result (λ orders. orders.items ≡ queue book sender.now) }
+    {
+        queues_are_of_the_waiting();
+        let numbers = self.records.orders.queue(sender);
+        // Names the type of due dates for the borrow checker, which finds it nowhere else in this function.
+        let _no_date: Option<BusinessDate> = None;
+        let mut queue = Vec::with_capacity(self.alloc, numbers.len())?;
+        for number in numbers {
+            queue.push_reserved(self.records.orders.numbered(*number).unwrap());
+        }
+        Ok(queue)
+    }
+
+    /// The code of the participant at this place, in the order of the codes; past the last there is none.
+    pub fn code_at(&self, index: usize) -> Option<Code>
+        ensures { (book : Book) → IsCoreOf book self.now.core → result ≡ slice_get (accounts book) index }
+    {
+        self.records.accounts.code_at(index)
+    }
+
+    /// Whatever was looked up and adopted, the participants are those of a sound book.
+    pub fn holds_participants_of_a_sound_book(&self)
+        ensures { IsSound (book_of_participants (map participant_of self.now.core.accounts)) }
+    {
+        // Called for its contract alone: the accounts are those of participants that a sound book may have.
+        let _accounts = self.records.accounts.as_slice();
+    }
+
+    pub fn day(&self) -> Day
+        ensures { result ≡ self.now.core.day }
+    {
+        self.records.day
+    }
+}

@@ -1,0 +1,28 @@
+use Rattle.std.proofs.Common.{[], ◌∷◌, Some, ap, ◌∙◌}
+use Rattle.sqlite.specs.declared.types.Value.TheVariants.{Text}
+use Rattle.sqlite.specs.Values.{or_null, bound_value}
+use Rattle.sqlite.specs.Held.{state}
+use Rattle.rtgs_sql_writes.proofs.EnterLemmas.{enters}
+use Rattle.rtgs_sql_writes.proofs.Casts.{date_bound}
+use Rattle.rtgs_sql_writes.proofs.Keeps.{kept}
+use Rattle.rtgs_sql_writes.proofs.Leading.{leads}
+use Rattle.rtgs_sql_writes.proofs.statements.updates.enter_queue.Goals as goal
+
+pub returns-clause-kept : goal.returns-clause-kept
+returns-clause-kept g c clean =
+    kept g.S.Store _ _ c.args.tx.now.conn.now c.execute.new.self.conn.now c.execute.result _ c.execute.ensures.ended
+    (c.execute.ensures.runs clean)
+
+pub returns-clause-made : goal.returns-clause-made
+returns-clause-made g c content order =
+    let number = ap bound_value c.number_value.ensures in
+    let queued = ap bound_value c.state_value.ensures in
+    let day = ap bound_value (c.text_or_null.ensures ∙ ap (or_null Text) c.text_of-day.ensures.text
+    ∙ date_bound (Some c.args.date)) in
+    let held = ap bound_value c.state_value-2.ensures in
+    let old = state g.S.Store c.args.tx.now.conn.now in
+    let new = state g.S.Store c.execute.new.self.conn.now in
+    leads _ _ old new content _ c.execute.result
+    (λ was stands runs. enters c.args.number c.args.date c.one_table_answers.ensures was content old new
+    c.execute.result _ (λ i. number i ∷ queued i ∷ day i ∷ held i ∷ []) stands order runs)
+    c.execute.ensures.runs
