@@ -31,10 +31,10 @@ CONSTANTS = {
     "objects": ("rtgs_book_file/src/limits.rt", "MOST_OBJECTS"),
     "rows": ("rtgs_order_files/src/limits.rt", "MOST_ROWS"),
     "file": ("rtgs_order_files/src/limits.rt", "MOST_BYTES"),
-    "head": ("rtgs_http_feeds/src/limits.rt", "LONGEST_HEAD"),
-    "body": ("rtgs_http_feeds/src/limits.rt", "LONGEST_BODY"),
-    "fields": ("rtgs_http_heads/src/limits.rt", "MOST_FIELDS"),
-    "digits": ("rtgs_http_heads/src/limits.rt", "MOST_DIGITS"),
+    "head": ("rtgs_http_requests/src/feeds/limits.rt", "LONGEST_HEAD"),
+    "body": ("rtgs_http_requests/src/feeds/limits.rt", "LONGEST_BODY"),
+    "fields": ("rtgs_http_requests/src/heads/limits.rt", "MOST_FIELDS"),
+    "digits": ("rtgs_http_requests/src/heads/limits.rt", "MOST_DIGITS"),
     "request": ("rtgs_http_server/src/request_reader.rt", "SECONDS_FOR_A_REQUEST"),
     "after": ("rtgs_http_server/src/request_reader.rt", "SECONDS_AFTER_A_REPLY"),
     "reply": ("rtgs_http_server/src/reply_writer.rt", "SECONDS_FOR_A_REPLY"),
@@ -203,7 +203,7 @@ TEXTS = {
 # numbers that another script or a test asserts, which is named
 ELSEWHERE = {
     "README.md": {
-        "Three banks owe each other 100 cents in a ring": "rtgs_desk_cli_trials, gridlocks.rt",
+        "Three banks owe each other 100 cents in a ring": "rtgs_cli_trials, gridlocks.rt",
     },
     "docs/SPECIFICATION.md": {
         "at most 127 levels deep, without a number too large for a 64-bit float": "rtgs_http_trials, bodies.rt",
@@ -277,7 +277,7 @@ def constants():
     """Returns each number that a text may name."""
     found = {name: constant(*place) for name, place in CONSTANTS.items()}
     tables = re.search(r"^known_tables = (.*?)\[\]", content(f"{CRATES}/rtgs_rows/specs/Tables.antt"), re.M | re.S)
-    served = re.findall(r"\.range\(1\.\.=(\d+)\)", content(f"{CRATES}/rtgs_desk_arguments/src/serving.rt"))
+    served = re.findall(r"\.range\(1\.\.=(\d+)\)", content(f"{CRATES}/rtgs_cli_arguments/src/serving.rt"))
     largest = found["total"] + (found["participants"] - 1) * found["credit"]
     return {
         **found,

@@ -110,7 +110,7 @@ class Documents(unittest.TestCase):
                              ["links of the promises"])
 
     def test_clauses_and_names_must_be_those_of_the_code(self):
-        good = "`Desk::submit` (`acts`, which is `Acts`: `judged`; `faults`), `make` of `rtgs_stored_desk` (`stops`)"
+        good = "`Desk::submit` (`acts`, which is `Acts`: `judged`; `faults`), `make` of `rtgs_book_file` (`stops`)"
         self.assertEqual(self.found(documents.cited_clauses, good), [])
         self.assertEqual(self.found(documents.cited_clauses, "`Desk::submit` (`actions`)"), ["clauses of Desk::submit"])
         text = "## Beside the main promises\n\n`numbers_are_distinct` `Desk::none` `no_such_name` `SqlKeeper` `clap`\n"

@@ -228,7 +228,7 @@ class Installing(unittest.TestCase):
 
     @unittest.skipUnless(sources.is_checkout(), "needs a checkout")
     def test_sources_that_git_writes_name_their_commit(self):
-        path = "crates/rtgs_desk_arguments/src/version.rt"
+        path = "crates/rtgs_cli_arguments/src/version.rt"
         with desks.room() as folder:
             sources.write(folder)
             version = desks.content(f"{folder}/{path}").decode().split('"')[1]

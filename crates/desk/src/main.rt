@@ -1,8 +1,8 @@
 //! The program `desk`: one run over its own words and streams.
 #![tactic(auto)]
 
-use rtgs_desk_cli::run_words;
-use rtgs_desk_lines::Failure;
+use rtgs_cli::run_words;
+use rtgs_cli_lines::Failure;
 use rtgs_refusals::exit_status::MISUSED;
 use sqlite::Unknown;
 use std::alloc::{AllocError, Global};

@@ -1,12 +1,10 @@
 //! Bodies of requests.
 ghost use Rattle.std.specs.Prelude.{◌≤◌, length};
-ghost use Rattle.rtgs_http_feeds.specs.declared.limits.TheConstants.{LONGEST_BODY};
+ghost use Rattle.rtgs_http_requests.specs.declared.feeds.limits.TheConstants.{LONGEST_BODY};
 
 use anyhow::{Result, ensure};
-use rtgs_http_feeds::BodyFeed;
-use rtgs_http_feeds::limits::LONGEST_BODY;
-use rtgs_http_heads::BankRoute;
-use rtgs_http_requests::{Admitted, read_asked};
+use rtgs_http_requests::feeds::limits::LONGEST_BODY;
+use rtgs_http_requests::{Admitted, BankRoute, BodyFeed, read_asked};
 use rtgs_money::Code;
 use std::alloc::{AllocError, Global};
 use std::time::{Duration, Instant};

@@ -1,7 +1,6 @@
 //! Heads of requests.
 use anyhow::{Result, ensure};
-use rtgs_http_feeds::{HeadFeed, HeadStep};
-use rtgs_http_requests::Plan;
+use rtgs_http_requests::{HeadFeed, HeadStep, Plan};
 use rtgs_money::{Key, KeyDigest};
 use std::alloc::{AllocError, Global};
 use std::time::{Duration, Instant};

@@ -2,7 +2,7 @@
 //! book. Each line of the input has the words of one run; it is printed, and then what the desk prints of it.
 #![tactic(auto)]
 
-use rtgs_desk_cli::run_words;
+use rtgs_cli::run_words;
 use sqlite::Unknown;
 use std::alloc::{AllocError, Global};
 use std::io::{self, Write};

@@ -21,3 +21,4 @@ pub mod Soundness
 pub mod Standings
 pub mod Step
 pub mod Totals
+pub mod cores

@@ -1,4 +1,5 @@
-//! The settlement book: its records, the commands, and what they mean.
+//! The settlement book: its records, the commands, and what they mean. And the part of a book that an open desk has in
+//! memory (`cores`).
 #![tactic(auto)]
 
 mod account;
@@ -6,6 +7,7 @@ mod answer;
 mod book;
 mod change;
 mod command;
+pub mod cores;
 mod day;
 mod fault;
 pub mod laws;
@@ -27,6 +29,7 @@ pub use crate::answer::{Answer, Known, Resolution, WholeAnswer};
 pub use crate::book::Book;
 pub use crate::change::{Change, RowChange};
 pub use crate::command::Command;
+pub use crate::cores::{Core, Found};
 pub use crate::day::Day;
 pub use crate::fault::Fault;
 pub use crate::limits::{

@@ -1,7 +1,7 @@
 //! Readings.
 //!
 //! To add one, say what it tells in `Readings.antt` of `rtgs_desk`, who may ask for it in `Access.antt` of
-//! `rtgs_http_requests`, and how it is printed in `Readings.antt` of `rtgs_desk_texts`. The compiler names the
+//! `rtgs_http_requests`, and how it is printed in `Readings.antt` of `rtgs_http_bodies::desks`. The compiler names the
 //! functions that lack a case for it. It knows nothing of a route and a subcommand: those ask for a reading by its
 //! name.
 use rtgs_money::{BusinessDate, Code, Reference};

@@ -6,3 +6,4 @@ pub mod Lending
 pub mod Opened
 pub mod OverFile
 pub mod Refused
+pub mod stored_desk

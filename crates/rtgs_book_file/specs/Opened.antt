@@ -12,8 +12,8 @@ use Rattle.sqlite.specs.declared.FileStore.{FileStore}
 use Rattle.rtgs_book.specs.Books.{new_book}
 use Rattle.rtgs_keeper.specs.declared.keeper.Keeper.{Ghosts}
 use Rattle.rtgs_desk.specs.Seen.{Seen}
-use Rattle.rtgs_stored_desk.specs.Migrated.{WasMigration}
-use Rattle.rtgs_stored_desk.specs.Stored.{AreTablesOf, HasNoSchema, IsOver}
+use Rattle.rtgs_book_file.specs.stored_desk.Migrated.{WasMigration}
+use Rattle.rtgs_book_file.specs.stored_desk.Stored.{AreTablesOf, HasNoSchema, IsOver}
 use Rattle.rtgs_book_file.specs.Closed.{LeavesClosed}
 use Rattle.rtgs_book_file.specs.declared.closed_files.ClosedFiles.{ClosedFiles}
 

@@ -14,7 +14,7 @@ use Rattle.rtgs_book.specs.declared.command.Command.{Command}
 use Rattle.rtgs_book.specs.Outcome.{Reply}
 use Rattle.rtgs_keeper.specs.declared.keeper.Keeper.{Ghosts}
 use Rattle.rtgs_desk.specs.Seen.{Seen}
-use Rattle.rtgs_stored_desk.specs.Stored.{StopLeaves}
+use Rattle.rtgs_book_file.specs.stored_desk.Stored.{StopLeaves}
 use Rattle.rtgs_book_file.specs.Causes.{fault_of_cause, IsOfItsLock, ShowsNoBook, BarsBook}
 use Rattle.rtgs_book_file.specs.Causes.{BarsMigration}
 use Rattle.rtgs_book_file.specs.Closed.{LeavesClosed}

@@ -20,8 +20,8 @@ use Rattle.sqlite.specs.declared.error.ErrorCode.TheVariants as code
 use Rattle.rtgs_book.specs.declared.fault.Fault.{Fault}
 use Rattle.rtgs_book.specs.declared.fault.Fault.TheVariants.{OutOfMemory, StoreFault, NotADeskFile}
 use Rattle.rtgs_keeper.specs.declared.keeper.Keeper.{Ghosts}
-use Rattle.rtgs_stored_desk.specs.Migrated.{IsUnmigrated}
-use Rattle.rtgs_stored_desk.specs.Stored.{HasNoSchema, IsRefused, IsUnmade}
+use Rattle.rtgs_book_file.specs.stored_desk.Migrated.{IsUnmigrated}
+use Rattle.rtgs_book_file.specs.stored_desk.Stored.{HasNoSchema, IsRefused, IsUnmade}
 use Rattle.rtgs_book_file.specs.Closed.{LeavesNoMore}
 use Rattle.rtgs_book_file.specs.Files.{vacancy_of, opening_of, fault_of_store}
 use Rattle.rtgs_book_file.specs.declared.file_fault.FileFault.{FileFault}

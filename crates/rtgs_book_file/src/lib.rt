@@ -1,4 +1,4 @@
-//! The file of a book: its lock, and the desk over it.
+//! The file of a book: its lock, and the desk over it. And a desk over the tables of any store (`stored_desk`).
 #![tactic(auto)]
 
 mod abandoned_book;
@@ -24,6 +24,7 @@ mod open_book;
 mod released;
 mod schema_size;
 mod store;
+pub mod stored_desk;
 mod unopened;
 
 pub use crate::abandoned_book::AbandonedBook;

@@ -65,7 +65,7 @@ fn migrate_tables<S: Start>(
         (λ closed. closed.files.value)) }
 {
     let (mut conn, lock) = connect(rt, file)?;
-    match rtgs_stored_desk::migrate(rt.alloc(), &mut conn) {
+    match crate::stored_desk::migrate(rt.alloc(), &mut conn) {
         Ok(wrote) => Ok((ClosedBook::copied(conn, lock).release(), wrote)),
         Err(fault) => Err(Cause::Abandoned(fault, AbandonedBook::of(conn, lock))),
     }

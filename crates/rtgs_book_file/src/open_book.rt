@@ -4,7 +4,7 @@ ghost use Rattle.std.specs.Borrow.{sem};
 ghost use Rattle.sqlite.specs.Files.{file_state};
 ghost use Rattle.sqlite.specs.State.{HasCleanDisk};
 ghost use Rattle.sqlite.specs.WalFiles.{image_at};
-ghost use Rattle.rtgs_book.specs.declared.Fault.{Fault as FaultSpec};
+ghost use Rattle.rtgs_book.specs.declared.fault.Fault.{Fault as FaultSpec};
 ghost use Rattle.rtgs_book_file.specs.declared.file_fault.FileFault.TheVariants.{Book};
 ghost use Rattle.rtgs_book_file.specs.Lending.{LendsDesk};
 ghost use Rattle.rtgs_book_file.specs.Opened.{WasOpened, WasMade};
@@ -126,7 +126,7 @@ fn open_desk<S: Start>(
         (image_at S.Start) (λ closed. closed.files.value)) }
 {
     let (conn, lock) = connect(rt, file)?;
-    match rtgs_stored_desk::open(rt.alloc(), conn) {
+    match crate::stored_desk::open(rt.alloc(), conn) {
         Ok(desk) => Ok(OpenBook { desk, lock }),
         Err((fault, keeper)) => {
             let left = AbandonedBook::of(keeper.into_connection(), lock);
@@ -162,7 +162,7 @@ fn make_tables<S: Start>(
         (image_at S.Start) (λ closed. closed.files.value)) }
 {
     let (conn, lock) = connect(rt, file)?;
-    match rtgs_stored_desk::make(conn) {
+    match crate::stored_desk::make(conn) {
         Ok(made) => Ok(ClosedBook::copied(made, lock).release()),
         Err((fault, left)) => Err(Cause::Abandoned(fault, AbandonedBook::of(left, lock))),
     }

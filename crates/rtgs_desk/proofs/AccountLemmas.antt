@@ -1,6 +1,7 @@
 -- What the desk tells of one account, and of all in order.
 use Rattle.std.proofs.Common.{◌≡◌, ◌∙◌, ◌≤◌, ◌+◌, ◌++◌, ◌∷◌, [], ℕ, Bool, true, false, cond, List, length, map, take}
-use Rattle.std.proofs.Common.{find, nat_cmp, Less, Option, Some, None, Ok, option_map, refl, sym, ap, subst, inl, inr, arith}
+use Rattle.std.proofs.Common.{find, nat_cmp, Less, Option, Some, None, Ok, option_map, refl, sym, ap, subst, inl, inr}
+use Rattle.std.proofs.Common.{arith}
 use Rattle.std.proofs.lemmas.List.{length-map, take_more, take_all}
 use Rattle.std.proofs.lemmas.Option.{same_Some, slice_get-map, slice_get_within, slice_get_cases, get_or_from_slice_get}
 use Rattle.std.specs.Cmp.Lexicographic.{slice_cmp, bytes_decides}
@@ -10,15 +11,15 @@ use Rattle.std.specs.Prelude.{IfSome, slice_get}
 use Rattle.std.specs.Str.{bytes_eq}
 use Rattle.rtgs_lists.proofs.Codes.{bytes_eq_self, later_differs}
 use Rattle.rtgs_lists.proofs.Lists.{all_get}
-use Rattle.rtgs_book.specs.declared.Account.{Account}
-use Rattle.rtgs_book.specs.declared.Book.{Book}
-use Rattle.rtgs_book.specs.declared.Participant.{Participant}
+use Rattle.rtgs_book.specs.declared.account.Account.{Account}
+use Rattle.rtgs_book.specs.declared.book.Book.{Book}
+use Rattle.rtgs_book.specs.declared.participant.Participant.{Participant}
 use Rattle.rtgs_book.specs.declared.limits.TheConstants.{MOST_PARTICIPANTS}
 use Rattle.rtgs_book.specs.Balance.{balance}
 use Rattle.rtgs_book.specs.Lookup.{accounts, has_code, participant_of}
 use Rattle.rtgs_book.specs.Soundness.{IsSound}
-use Rattle.rtgs_cores.specs.Cores.{account_of}
-use Rattle.rtgs_cores.specs.Following as following
+use Rattle.rtgs_book.specs.cores.Cores.{account_of}
+use Rattle.rtgs_book.specs.cores.Following as following
 use Rattle.rtgs_desk.specs.Readings.{Tells, if_known, account_known, account_answer, reading_of, readings_of}
 use Rattle.rtgs_desk.specs.declared.reading.AccountReading.{AccountReading}
 

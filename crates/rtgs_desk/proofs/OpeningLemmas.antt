@@ -1,6 +1,6 @@
 -- What opening a desk leaves of its keeper.
 use Rattle.std.proofs.Common.{Result}
-use Rattle.rtgs_book.specs.declared.Fault.{Fault}
+use Rattle.rtgs_book.specs.declared.fault.Fault.{Fault}
 use Rattle.rtgs_keeper.specs.Calls.{OnlyReads}
 use Rattle.rtgs_keeper.specs.declared.keeper.Keeper.{Ghosts}
 use Rattle.rtgs_desk.specs.Opening.{LeavesKept}

@@ -1,6 +1,6 @@
 -- What a crash leaves of a desk that holds a book: the law of what texts are read from.
 use Rattle.std.specs.Prelude.{◌≡◌}
-use Rattle.rtgs_book.specs.declared.Book.{Book}
+use Rattle.rtgs_book.specs.declared.book.Book.{Book}
 use Rattle.rtgs_keeper.specs.declared.keeper.Keeper.{Ghosts}
 use Rattle.rtgs_desk.specs.Holding.{Holds, IsLeft}
 use Rattle.rtgs_desk.specs.Seen.{Seen}

@@ -2,11 +2,11 @@
 use Rattle.std.specs.Prelude.{◌≡◌, ◌≢◌, ◌⊎◌}
 use Rattle.rtgs_book.specs.Calm.{IsCalm}
 use Rattle.rtgs_book.specs.Soundness.{IsSound}
-use Rattle.rtgs_book.specs.declared.Book.{Book}
-use Rattle.rtgs_book.specs.declared.Fault.{Fault}
-use Rattle.rtgs_book.specs.declared.Fault.TheVariants.{OutOfMemory, StoreFault, Inconsistent}
-use Rattle.rtgs_book.specs.declared.Rule.{Rule}
-use Rattle.rtgs_book.specs.declared.Rule.TheVariants.{Calm}
+use Rattle.rtgs_book.specs.declared.book.Book.{Book}
+use Rattle.rtgs_book.specs.declared.fault.Fault.{Fault}
+use Rattle.rtgs_book.specs.declared.fault.Fault.TheVariants.{OutOfMemory, StoreFault, Inconsistent}
+use Rattle.rtgs_book.specs.declared.rule.Rule.{Rule}
+use Rattle.rtgs_book.specs.declared.rule.Rule.TheVariants.{Calm}
 use Rattle.rtgs_keeper.specs.declared.keeper.Keeper.{Ghosts}
 use Rattle.rtgs_desk.specs.Holding.{Holds, HasInMemory}
 use Rattle.rtgs_desk.specs.Seen.{Seen}

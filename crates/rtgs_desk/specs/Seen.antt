@@ -1,5 +1,5 @@
 -- A desk, as contracts see it.
-use Rattle.rtgs_cores.specs.declared.Core.{Core}
+use Rattle.rtgs_book.specs.declared.cores.cores.Core.{Core}
 
 -- its keeper, and what it has of a book in memory
 pub record Seen (K : Type 0) : Type 0 where

@@ -1,8 +1,11 @@
-//! The desk: a ledger in memory, and a keeper that stores each change before it is answered.
+//! The desk: a ledger in memory, and a keeper that stores each change before it is answered. And the rows of an order
+//! file, submitted to it one after another (`batches`).
 #![tactic(auto)]
 
+pub mod batches;
 mod desk;
 mod reading;
 
+pub use crate::batches::submit_batch;
 pub use crate::desk::Desk;
 pub use crate::reading::AccountReading;

@@ -1,8 +1,8 @@
 -- The examples of automatic days, computed.
 use Rattle.std.proofs.Common.{pos, [], ◌∷◌, true, Some, None, Ok, codes, refl, inl, inr}
-use Rattle.rtgs_book.specs.declared.Command.TheVariants.{Post, OpenDay, Resolve, CutOff, CloseDay}
-use Rattle.rtgs_book.specs.declared.Answer.TheVariants as answer
-use Rattle.rtgs_book.specs.declared.Book.{Book}
+use Rattle.rtgs_book.specs.declared.command.Command.TheVariants.{Post, OpenDay, Resolve, CutOff, CloseDay}
+use Rattle.rtgs_book.specs.declared.answer.Answer.TheVariants as answer
+use Rattle.rtgs_book.specs.declared.book.Book.{Book}
 use Rattle.rtgs_book.specs.Choice.{Choice, IsGreatest}
 use Rattle.rtgs_book.specs.Commands.{order, resolve, post, open_day, cut_off, close_day}
 use Rattle.rtgs_book.specs.Outcome.{Outcome, alone}

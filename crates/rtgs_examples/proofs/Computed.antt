@@ -2,22 +2,24 @@
 use Rattle.std.proofs.Common.{pos, ◌≤ℤ◌, negsuc, false, List, [], ◌∷◌, None, Ok, Err, codes, refl, inl, inr}
 use Rattle.std.specs.Bool.{⊤}
 use Rattle.std.specs.List.{AllByRecursion}
-use Rattle.rtgs_book.specs.declared.Command.TheVariants.{SetCredit, Post, OpenDay, Withdraw, Resolve, CutOff, CloseDay}
-use Rattle.rtgs_book.specs.declared.Answer.TheVariants as answer
-use Rattle.rtgs_book.specs.declared.Known.TheVariants as known
-use Rattle.rtgs_book.specs.declared.Refusal.TheVariants as refusal
-use Rattle.rtgs_book.specs.declared.OrderState.TheVariants as state
+use Rattle.rtgs_book.specs.declared.command.Command.TheVariants.{SetCredit, Post, OpenDay, Withdraw, Resolve, CutOff}
+use Rattle.rtgs_book.specs.declared.command.Command.TheVariants.{CloseDay}
+use Rattle.rtgs_book.specs.declared.answer.Answer.TheVariants as answer
+use Rattle.rtgs_book.specs.declared.answer.Known.TheVariants as known
+use Rattle.rtgs_book.specs.declared.refusal.Refusal.TheVariants as refusal
+use Rattle.rtgs_book.specs.declared.order_state.OrderState.TheVariants as state
 use Rattle.jiff_core.specs.Calendar.{days_from_civil, weekday_number, day_count, days_of_years, days_of_months}
 use Rattle.rtgs_money.specs.Date.{is_weekend}
-use Rattle.rtgs_book.specs.declared.Book.{Book}
-use Rattle.rtgs_book.specs.declared.Command.{Command}
+use Rattle.rtgs_book.specs.declared.book.Book.{Book}
+use Rattle.rtgs_book.specs.declared.command.Command.{Command}
 use Rattle.rtgs_book.specs.Outcome.{OwnReply, first_of}
 use Rattle.rtgs_book.specs.Lookup.{participant_of, credit_of, accounts, is_participant, order_named, posting_named}
 use Rattle.rtgs_book.specs.Balance.{gain, balance, floor, total}
 use Rattle.rtgs_book.specs.Queue.{queue, waiting, orders_before}
 use Rattle.rtgs_book.specs.Choice.{Choice, is_chosen, chosen, balance_after, IsGreatest}
 use Rattle.rtgs_book.specs.Settle.{settle, mark_of}
-use Rattle.rtgs_book.specs.Commands.{order, takes, settles_at_once, resolve, set_credit, post, withdraw, let_in, open_day, cut_off, close_day, with_credit, with_state, overdrawn}
+use Rattle.rtgs_book.specs.Commands.{order, takes, settles_at_once, resolve, set_credit, post, withdraw, let_in}
+use Rattle.rtgs_book.specs.Commands.{open_day, cut_off, close_day, with_credit, with_state, overdrawn}
 use Rattle.rtgs_book.specs.Procedure.{everything, taken_back, Reaches, All, Without_newest}
 use Rattle.rtgs_examples.proofs.WholeRuns.{as_whole_run}
 use Rattle.rtgs_examples.specs.Examples.{alfa, beta, gama, zeta, monday, start, unopened, pays, Comes, ComesFrom}

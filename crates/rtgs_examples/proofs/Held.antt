@@ -1,12 +1,12 @@
 -- The examples of orders for a later date, computed.
 use Rattle.std.proofs.Common.{pos, false, List, [], ◌∷◌, Some, None, Ok, Err, codes, refl, inl}
-use Rattle.rtgs_book.specs.declared.Command.TheVariants.{Post, OpenDay, Withdraw, Resolve, CutOff, CloseDay}
-use Rattle.rtgs_book.specs.declared.Answer.TheVariants as answer
-use Rattle.rtgs_book.specs.declared.Known.TheVariants as known
-use Rattle.rtgs_book.specs.declared.Refusal.TheVariants as refusal
-use Rattle.rtgs_book.specs.declared.OrderState.TheVariants as state
-use Rattle.rtgs_book.specs.declared.Book.{Book}
-use Rattle.rtgs_book.specs.declared.Command.{Command}
+use Rattle.rtgs_book.specs.declared.command.Command.TheVariants.{Post, OpenDay, Withdraw, Resolve, CutOff, CloseDay}
+use Rattle.rtgs_book.specs.declared.answer.Answer.TheVariants as answer
+use Rattle.rtgs_book.specs.declared.answer.Known.TheVariants as known
+use Rattle.rtgs_book.specs.declared.refusal.Refusal.TheVariants as refusal
+use Rattle.rtgs_book.specs.declared.order_state.OrderState.TheVariants as state
+use Rattle.rtgs_book.specs.declared.book.Book.{Book}
+use Rattle.rtgs_book.specs.declared.command.Command.{Command}
 use Rattle.rtgs_book.specs.Outcome.{OwnReply}
 use Rattle.rtgs_book.specs.Choice.{Choice, IsGreatest}
 use Rattle.rtgs_book.specs.Commands.{order, resolve, post, withdraw, open_day, cut_off, close_day}

@@ -1,8 +1,8 @@
 -- Runs of commands by themselves as whole runs, where no day is automatic.
 use Rattle.std.proofs.Common.{◌≡◌, Bool, true, false, not, ◌&&◌, List, [], ◌∷◌, map, refl, sym, subst}
 use Rattle.std.proofs.lemmas.Bool.{and_parts}
-use Rattle.rtgs_book.specs.declared.Book.{Book}
-use Rattle.rtgs_book.specs.declared.Command.{Command}
+use Rattle.rtgs_book.specs.declared.book.Book.{Book}
+use Rattle.rtgs_book.specs.declared.command.Command.{Command}
 use Rattle.rtgs_book.specs.Books.{is_automatic}
 use Rattle.rtgs_book.specs.Outcome.{OwnReply, alone, is_done}
 use Rattle.rtgs_book.specs.Run.{Run}

@@ -1,13 +1,13 @@
 -- Worked examples: three banks with no credit on Monday 2024-03-04.
 use Rattle.std.specs.Prelude.{◌≡◌, ℕ, ℤ, true, false, List, [], ◌∷◌, map, Some, None, replicate, codes}
-use Rattle.rtgs_book.specs.declared.Command.TheVariants.{Order}
-use Rattle.rtgs_book.specs.declared.Book.{Book}
-use Rattle.rtgs_book.specs.declared.Order.{Order as OrderRecord}
-use Rattle.rtgs_book.specs.declared.Participant.{Participant}
-use Rattle.rtgs_book.specs.declared.Phase.TheVariants.{Open, Closed}
+use Rattle.rtgs_book.specs.declared.command.Command.TheVariants.{Order}
+use Rattle.rtgs_book.specs.declared.book.Book.{Book}
+use Rattle.rtgs_book.specs.declared.order.Order.{Order as OrderRecord}
+use Rattle.rtgs_book.specs.declared.participant.Participant.{Participant}
+use Rattle.rtgs_book.specs.declared.phase.Phase.TheVariants.{Open, Closed}
 use Rattle.rtgs_book.specs.Balance.{balance}
 use Rattle.rtgs_book.specs.Lookup.{accounts}
-use Rattle.rtgs_book.specs.declared.Command.{Command}
+use Rattle.rtgs_book.specs.declared.command.Command.{Command}
 use Rattle.rtgs_book.specs.Outcome.{OwnReply, Reply, alone, with_resolution}
 use Rattle.rtgs_book.specs.Queue.{queued_numbers}
 use Rattle.rtgs_book.specs.Run.{Run}

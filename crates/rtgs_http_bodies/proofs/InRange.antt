@@ -3,7 +3,7 @@ use Rattle.std.proofs.Common.{arith}
 use Rattle.http.specs.StatusCode.{IsStatusCode}
 use Rattle.rtgs_refusals.specs.declared.refusal_kind.RefusalKind.{RefusalKind}
 use Rattle.rtgs_refusals.specs.declared.refusal_kind.RefusalKind.TheVariants as kind
-use Rattle.rtgs_http_replies.specs.Kinds.{kind_status}
+use Rattle.rtgs_http_bodies.specs.replies.Kinds.{kind_status}
 
 pub status_in_range : (kind : RefusalKind) → IsStatusCode (kind_status kind)
 status_in_range kind.UnknownParticipant = (omega arith, omega arith)

@@ -9,7 +9,7 @@ use Rattle.rtgs_book.specs.declared.refusal.Refusal.TheVariants.{TooManyParticip
 use Rattle.rtgs_book.specs.declared.refusal.Refusal.TheVariants.{WrongDate, Weekend, NotQueued, Resolvable, Overdrawn}
 use Rattle.rtgs_book.specs.declared.refusal.Refusal.TheVariants.{DueNotLater}
 use Rattle.rtgs_book.specs.declared.refusal.Refusal.TheVariants.{OutOfMemory, StoreFault, Failed}
-use Rattle.rtgs_http_replies.specs.Kinds.{kind_data}
+use Rattle.rtgs_http_bodies.specs.replies.Kinds.{kind_data}
 use Rattle.rtgs_http_bodies.specs.Refusals.{refused_data}
 
 pub undetailed : (refusal : Refusal) → ((first : List ℕ) (count : ℕ) → refusal ≡ Overdrawn first count → ⊥)

@@ -15,7 +15,7 @@ use Rattle.rtgs_book.specs.declared.order_state.OrderState.TheVariants as state
 use Rattle.rtgs_book.specs.declared.standing.Standing.{Standing}
 use Rattle.rtgs_book.specs.declared.standing.Standing.TheVariants as standing
 use Rattle.rtgs_book.specs.Standings.{word_of}
-use Rattle.rtgs_http_replies.specs.Bodies.{whole, signed}
+use Rattle.rtgs_http_bodies.specs.replies.Bodies.{whole, signed}
 
 -- what was resolved after a command
 abbrev pub resolution_data : Resolution → Data

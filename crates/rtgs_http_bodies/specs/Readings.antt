@@ -9,7 +9,7 @@ use Rattle.rtgs_book.specs.declared.order_state.OrderState.TheVariants as state
 use Rattle.rtgs_book.specs.declared.standing.Standing.{Standing}
 use Rattle.rtgs_book.specs.declared.standing.Standing.TheVariants as standing
 use Rattle.rtgs_book.specs.Standings.{word_of}
-use Rattle.rtgs_http_replies.specs.Bodies.{whole}
+use Rattle.rtgs_http_bodies.specs.replies.Bodies.{whole}
 
 -- an order's members from its number on; it stands so
 abbrev pub order_members : Order → Standing → Members

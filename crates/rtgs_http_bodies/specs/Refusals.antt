@@ -9,9 +9,9 @@ use Rattle.rtgs_book.specs.declared.refusal.Refusal.TheVariants.{Overdrawn}
 use Rattle.rtgs_order_files.specs.BatchFaults.{batch_kind_of}
 use Rattle.rtgs_order_files.specs.declared.batch_fault.BatchFault.{BatchFault}
 use Rattle.rtgs_order_files.specs.declared.batch_fault.BatchFault.TheVariants.{BadRow}
-use Rattle.rtgs_http_replies.specs.Bodies.{whole}
-use Rattle.rtgs_http_replies.specs.Kinds.{kind_status, kind_data}
-use Rattle.rtgs_http_replies.specs.Messages.{Message, json_message}
+use Rattle.rtgs_http_bodies.specs.replies.Bodies.{whole}
+use Rattle.rtgs_http_bodies.specs.replies.Kinds.{kind_status, kind_data}
+use Rattle.rtgs_http_bodies.specs.replies.Messages.{Message, json_message}
 
 -- so many participants are below zero, the first in the order of codes this one
 abbrev pub overdrawn_data : List ℕ → ℕ → Data

@@ -4,12 +4,12 @@ ghost use Rattle.serde_json.specs.Data.{Members, member, no_members, object, put
 ghost use Rattle.serde_json.specs.View.{view};
 ghost use Rattle.rtgs_http_bodies.specs.Answers.{answer_object, answer_data, own_data, repeated_data, repeated_order};
 ghost use Rattle.rtgs_http_bodies.specs.Answers.{resolution_data, unsettled_repeat};
-ghost use Rattle.rtgs_http_replies.specs.Bodies.{whole};
-ghost use Rattle.rtgs_http_replies.specs.Messages.{json_message};
+ghost use Rattle.rtgs_http_bodies.specs.replies.Bodies.{whole};
+ghost use Rattle.rtgs_http_bodies.specs.replies.Messages.{json_message};
 
+use crate::replies::Reply;
 use http::StatusCode;
 use rtgs_book::{Answer, Known, OrderState, Resolution, Standing, WholeAnswer};
-use rtgs_http_replies::Reply;
 use serde_json::{Value, json};
 use std::alloc::{AllocError, Global};
 

@@ -1,13 +1,13 @@
 //! Replies that tell what came of a batch.
 ghost use Rattle.std.specs.Prelude.{◌≡◌, IfOk};
 ghost use Rattle.rtgs_order_files.specs.Results.{results_text};
-ghost use Rattle.rtgs_http_replies.specs.Messages.{message};
-ghost use Rattle.rtgs_http_replies.specs.declared.content_type.ContentType.{ContentType};
+ghost use Rattle.rtgs_http_bodies.specs.replies.Messages.{message};
+ghost use Rattle.rtgs_http_bodies.specs.declared.replies.content_type.ContentType.{ContentType};
 ghost use Rattle.rtgs_http_bodies.specs.Statuses.{batch_status};
 
+use crate::replies::{ContentType, Reply};
 use http::StatusCode;
 use rtgs_book::Refusal;
-use rtgs_http_replies::{ContentType, Reply};
 use rtgs_order_files::{BatchResult, OrderRow, write_results};
 use std::alloc::{AllocError, Global};
 

@@ -4,12 +4,12 @@ ghost use Rattle.serde_json.specs.Data.{Members, object, put, string};
 ghost use Rattle.serde_json.specs.View.{view};
 ghost use Rattle.serde_json.specs.Written.{compact_text};
 ghost use Rattle.rtgs_http_bodies.specs.Readings.{order_data, settled_order, undated, unsettled_order};
-ghost use Rattle.rtgs_http_replies.specs.Messages.{json_message};
+ghost use Rattle.rtgs_http_bodies.specs.replies.Messages.{json_message};
 ghost use Rattle.rtgs_money.specs.Date.{date_text};
 
+use crate::replies::{ContentType, Reply};
 use http::StatusCode;
 use rtgs_book::{Order, OrderState, Standing};
-use rtgs_http_replies::{ContentType, Reply};
 use rtgs_money::BusinessDate;
 use serde_json::{Value, json};
 use std::alloc::{AllocError, Global};

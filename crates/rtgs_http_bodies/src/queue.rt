@@ -3,11 +3,11 @@ ghost use Rattle.std.specs.Prelude.{◌≡◌, map, IfOk};
 ghost use Rattle.serde_json.specs.View.{view};
 ghost use Rattle.serde_json.specs.Written.{compact_text};
 ghost use Rattle.rtgs_http_bodies.specs.Readings.{queue_data, queued_data, queued_from};
-ghost use Rattle.rtgs_http_replies.specs.Messages.{json_message};
+ghost use Rattle.rtgs_http_bodies.specs.replies.Messages.{json_message};
 
+use crate::replies::{ContentType, Reply};
 use http::StatusCode;
 use rtgs_book::Order;
-use rtgs_http_replies::{ContentType, Reply};
 use serde_json::{Value, json};
 use std::alloc::{AllocError, Global};
 

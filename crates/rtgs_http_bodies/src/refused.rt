@@ -2,14 +2,14 @@
 ghost use Rattle.std.specs.Prelude.{◌≡◌, IfOk, IsOk};
 ghost use Rattle.http.specs.StatusCode.{IsStatusCode};
 ghost use Rattle.serde_json.specs.View.{view};
-ghost use Rattle.rtgs_book.specs.declared.Refusal.{Refusal};
+ghost use Rattle.rtgs_book.specs.declared.refusal.Refusal.{Refusal};
 ghost use Rattle.rtgs_refusals.specs.declared.RefusalKind.{RefusalKind};
 ghost use Rattle.rtgs_http_bodies.specs.Refusals.{refused_message, batch_refused_message, overdrawn_data, bad_row_data};
-ghost use Rattle.rtgs_http_replies.specs.Kinds.{kind_status, kind_message};
+ghost use Rattle.rtgs_http_bodies.specs.replies.Kinds.{kind_status, kind_message};
 
+use crate::replies::Reply;
 use http::StatusCode;
 use rtgs_book::Refusal;
-use rtgs_http_replies::Reply;
 use rtgs_money::Code;
 use rtgs_order_files::BatchFault;
 use rtgs_refusals::RefusalKind;

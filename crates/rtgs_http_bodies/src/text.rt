@@ -1,10 +1,10 @@
 //! Replies that give a statement or a day report.
 ghost use Rattle.std.specs.Prelude.{◌≡◌, IfOk};
-ghost use Rattle.rtgs_http_replies.specs.Messages.{message};
-ghost use Rattle.rtgs_http_replies.specs.declared.content_type.ContentType.{ContentType};
+ghost use Rattle.rtgs_http_bodies.specs.replies.Messages.{message};
+ghost use Rattle.rtgs_http_bodies.specs.declared.replies.content_type.ContentType.{ContentType};
 
+use crate::replies::{ContentType, Reply};
 use http::StatusCode;
-use rtgs_http_replies::{ContentType, Reply};
 use std::alloc::{AllocError, Global};
 
 /// The reply with a text that was gathered. The only error is lack of memory.

@@ -9,15 +9,16 @@ use Rattle.rtgs_book.specs.declared.command.Command.TheVariants as command
 use Rattle.rtgs_book.specs.declared.reading.Reading.TheVariants as reading
 use Rattle.rtgs_money.specs.Amounts.{IsAmount}
 use Rattle.rtgs_money.specs.Forms.{IsCode, IsReference, is_code, is_reference}
-use Rattle.rtgs_http_heads.specs.Fields.{HasKey}
-use Rattle.rtgs_http_heads.specs.Heads.{fields_of}
-use Rattle.rtgs_http_heads.specs.Targets.{is_post}
-use Rattle.rtgs_http_heads.specs.declared.bank_route.BankRoute.{BankRoute}
-use Rattle.rtgs_http_heads.specs.declared.bank_route.BankRoute.TheVariants.{SendOrder, WithdrawOrder, SendBatch}
-use Rattle.rtgs_http_heads.specs.declared.bank_route.BankRoute.TheVariants.{ReadOrder, ReadAccount, ReadQueue}
-use Rattle.rtgs_http_heads.specs.declared.bank_route.BankRoute.TheVariants.{ReadStatement}
-use Rattle.rtgs_http_heads.specs.declared.route.Route.{Route}
-use Rattle.rtgs_http_heads.specs.declared.route.Route.TheVariants.{Bank, Operator}
+use Rattle.rtgs_http_requests.specs.heads.Fields.{HasKey}
+use Rattle.rtgs_http_requests.specs.heads.Heads.{fields_of}
+use Rattle.rtgs_http_requests.specs.heads.Targets.{is_post}
+use Rattle.rtgs_http_requests.specs.declared.heads.bank_route.BankRoute.{BankRoute}
+use Rattle.rtgs_http_requests.specs.declared.heads.bank_route.BankRoute.TheVariants.{SendOrder, WithdrawOrder}
+use Rattle.rtgs_http_requests.specs.declared.heads.bank_route.BankRoute.TheVariants.{SendBatch}
+use Rattle.rtgs_http_requests.specs.declared.heads.bank_route.BankRoute.TheVariants.{ReadOrder, ReadAccount, ReadQueue}
+use Rattle.rtgs_http_requests.specs.declared.heads.bank_route.BankRoute.TheVariants.{ReadStatement}
+use Rattle.rtgs_http_requests.specs.declared.heads.route.Route.{Route}
+use Rattle.rtgs_http_requests.specs.declared.heads.route.Route.TheVariants.{Bank, Operator}
 use Rattle.rtgs_http_requests.specs.Bodies.{ReadsJson, body_length}
 use Rattle.rtgs_http_requests.specs.Callers.{CodeOf, caller_under, known}
 use Rattle.rtgs_http_requests.specs.Contents.{FindsContent, OrderValues, HasOrder, HasNothing}

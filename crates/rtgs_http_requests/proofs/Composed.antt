@@ -1,13 +1,13 @@
 -- The steps of a head and of a key, put together.
 use Rattle.std.proofs.Common.{◌≡◌, ℕ, List, Bool, Option, Some, Result, Ok, Err, refl, sym, ◌∙◌, subst}
-use Rattle.rtgs_http_heads.specs.Asking.{ReadsHead}
-use Rattle.rtgs_http_heads.specs.Fields.{HasKey}
-use Rattle.rtgs_http_heads.specs.Heads.{fields_of}
-use Rattle.rtgs_http_heads.specs.Targets.{is_post, routed}
-use Rattle.rtgs_http_heads.specs.declared.head.Head.{Head}
-use Rattle.rtgs_http_heads.specs.declared.head_fault.HeadFault.{HeadFault}
-use Rattle.rtgs_http_heads.specs.declared.head_fault.HeadFault.TheVariants as head
-use Rattle.rtgs_http_heads.specs.declared.route.Route.{Route}
+use Rattle.rtgs_http_requests.specs.heads.Asking.{ReadsHead}
+use Rattle.rtgs_http_requests.specs.heads.Fields.{HasKey}
+use Rattle.rtgs_http_requests.specs.heads.Heads.{fields_of}
+use Rattle.rtgs_http_requests.specs.heads.Targets.{is_post, routed}
+use Rattle.rtgs_http_requests.specs.declared.heads.head.Head.{Head}
+use Rattle.rtgs_http_requests.specs.declared.heads.head_fault.HeadFault.{HeadFault}
+use Rattle.rtgs_http_requests.specs.declared.heads.head_fault.HeadFault.TheVariants as head
+use Rattle.rtgs_http_requests.specs.declared.heads.route.Route.{Route}
 use Rattle.rtgs_http_requests.specs.Bodies.{body_length}
 use Rattle.rtgs_http_requests.specs.Callers.{CodeOf, caller_under, LeadsToCaller}
 use Rattle.rtgs_http_requests.specs.Exchange.{HasBody}

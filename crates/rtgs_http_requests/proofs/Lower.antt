@@ -1,4 +1,4 @@
--- Laws of the crates below that are cited together.
+-- Laws of the crates and the modules below that are cited together.
 use Rattle.std.proofs.Common.{◌≡◌, ℕ, List, Option}
 use Rattle.std.specs.Prelude.{◌≢◌}
 use Rattle.httparse.specs.Grammar.{RequestHead}
@@ -7,9 +7,9 @@ use Rattle.rtgs_order_files.specs.OrderFile.{IsOrderFile, IsFaultOf}
 use Rattle.rtgs_order_files.specs.declared.batch_fault.BatchFault.{BatchFault}
 use Rattle.rtgs_order_files.specs.declared.batch_fault.BatchFault.TheVariants.{OutOfMemory}
 use Rattle.rtgs_order_files.specs.declared.order_row.OrderRow.{OrderRow}
-use Rattle.rtgs_http_feeds.specs.Region.{StartsWith, IsTooLong, IsOpen}
-use Rattle.rtgs_http_heads.specs.Fields.{Fields, HasKey}
-use Rattle.rtgs_http_heads.specs.Heads.{IsGoodHead}
+use Rattle.rtgs_http_requests.specs.feeds.Region.{StartsWith, IsTooLong, IsOpen}
+use Rattle.rtgs_http_requests.specs.heads.Fields.{Fields, HasKey}
+use Rattle.rtgs_http_requests.specs.heads.Heads.{IsGoodHead}
 
 pub record LowerLaws : Type 0 where
   pub dates : (one other : ℕ) → IsBusinessDate one → IsBusinessDate other → date_text one ≡ date_text other

@@ -2,14 +2,17 @@
 use Rattle.std.proofs.Common.{◌≡◌, inl, inr, ℕ, Bool, List, Result, Ok, Err, refl, sym, ap, subst, ◌∙◌}
 use Rattle.serde_json.specs.Data.{Data}
 use Rattle.rtgs_book.specs.declared.command.Command.TheVariants as command
-use Rattle.rtgs_http_heads.specs.declared.bank_route.BankRoute.{BankRoute}
-use Rattle.rtgs_http_heads.specs.declared.bank_route.BankRoute.TheVariants.{SendOrder, WithdrawOrder, SendBatch}
-use Rattle.rtgs_http_heads.specs.declared.bank_route.BankRoute.TheVariants.{ReadOrder, ReadAccount, ReadQueue}
-use Rattle.rtgs_http_heads.specs.declared.bank_route.BankRoute.TheVariants.{ReadStatement}
-use Rattle.rtgs_http_heads.specs.declared.operator_route.OperatorRoute.{OperatorRoute}
-use Rattle.rtgs_http_heads.specs.declared.operator_route.OperatorRoute.TheVariants.{Post, SetCredit, OpenDay, Resolve}
-use Rattle.rtgs_http_heads.specs.declared.operator_route.OperatorRoute.TheVariants.{CutOff, CloseDay, ReadReport}
-use Rattle.rtgs_http_heads.specs.declared.operator_route.OperatorRoute.TheVariants.{ReadAccounts}
+use Rattle.rtgs_http_requests.specs.declared.heads.bank_route.BankRoute.{BankRoute}
+use Rattle.rtgs_http_requests.specs.declared.heads.bank_route.BankRoute.TheVariants.{SendOrder, WithdrawOrder}
+use Rattle.rtgs_http_requests.specs.declared.heads.bank_route.BankRoute.TheVariants.{SendBatch}
+use Rattle.rtgs_http_requests.specs.declared.heads.bank_route.BankRoute.TheVariants.{ReadOrder, ReadAccount, ReadQueue}
+use Rattle.rtgs_http_requests.specs.declared.heads.bank_route.BankRoute.TheVariants.{ReadStatement}
+use Rattle.rtgs_http_requests.specs.declared.heads.operator_route.OperatorRoute.{OperatorRoute}
+use Rattle.rtgs_http_requests.specs.declared.heads.operator_route.OperatorRoute.TheVariants.{Post, SetCredit, OpenDay}
+use Rattle.rtgs_http_requests.specs.declared.heads.operator_route.OperatorRoute.TheVariants.{Resolve}
+use Rattle.rtgs_http_requests.specs.declared.heads.operator_route.OperatorRoute.TheVariants.{CutOff, CloseDay}
+use Rattle.rtgs_http_requests.specs.declared.heads.operator_route.OperatorRoute.TheVariants.{ReadReport}
+use Rattle.rtgs_http_requests.specs.declared.heads.operator_route.OperatorRoute.TheVariants.{ReadAccounts}
 use Rattle.rtgs_http_requests.specs.Bodies.{ReadsJson}
 use Rattle.rtgs_http_requests.specs.Contents.{FindsContent, HasOrder, HasPosting, HasCredit, HasDate, HasOpening}
 use Rattle.rtgs_http_requests.specs.Contents.{HasNothing}

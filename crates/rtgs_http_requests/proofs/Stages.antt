@@ -1,8 +1,8 @@
 -- What follows each step of a request.
 use Rattle.std.proofs.Common.{◌≡◌, ℕ, List, Option}
 use Rattle.httparse.specs.Grammar.{RequestHead}
-use Rattle.rtgs_http_heads.specs.Targets.{is_post}
-use Rattle.rtgs_http_heads.specs.declared.route.Route.{Route}
+use Rattle.rtgs_http_requests.specs.heads.Targets.{is_post}
+use Rattle.rtgs_http_requests.specs.declared.heads.route.Route.{Route}
 use Rattle.rtgs_http_requests.specs.Bodies.{body_length}
 use Rattle.rtgs_http_requests.specs.Callers.{CodeOf}
 use Rattle.rtgs_http_requests.specs.Exchange.{HasHead, HasRoute, HasCaller, HasBody}

@@ -6,14 +6,14 @@ use Rattle.std.specs.Str.{bytes_eq}
 use Rattle.std.proofs.lemmas.Bool.{cases_lt}
 use Rattle.httparse.specs.Grammar.{RequestHead}
 use Rattle.rtgs_money.specs.Forms.{IsKey}
-use Rattle.rtgs_http_feeds.specs.Region.{StartsWith, IsTooLong, IsOpen}
-use Rattle.rtgs_http_feeds.specs.declared.limits.TheConstants.{LONGEST_BODY}
-use Rattle.rtgs_http_heads.specs.Fields.{HasKey, values_of}
-use Rattle.rtgs_http_heads.specs.Heads.{IsGoodHead, fields_of}
-use Rattle.rtgs_http_heads.specs.Targets.{routed, is_post}
-use Rattle.rtgs_http_heads.specs.declared.bank_route.BankRoute.{BankRoute}
-use Rattle.rtgs_http_heads.specs.declared.route.Route.{Route}
-use Rattle.rtgs_http_heads.specs.declared.route.Route.TheVariants.{Bank, Operator}
+use Rattle.rtgs_http_requests.specs.feeds.Region.{StartsWith, IsTooLong, IsOpen}
+use Rattle.rtgs_http_requests.specs.declared.feeds.limits.TheConstants.{LONGEST_BODY}
+use Rattle.rtgs_http_requests.specs.heads.Fields.{HasKey, values_of}
+use Rattle.rtgs_http_requests.specs.heads.Heads.{IsGoodHead, fields_of}
+use Rattle.rtgs_http_requests.specs.heads.Targets.{routed, is_post}
+use Rattle.rtgs_http_requests.specs.declared.heads.bank_route.BankRoute.{BankRoute}
+use Rattle.rtgs_http_requests.specs.declared.heads.route.Route.{Route}
+use Rattle.rtgs_http_requests.specs.declared.heads.route.Route.TheVariants.{Bank, Operator}
 use Rattle.rtgs_http_requests.specs.Bodies.{body_length}
 use Rattle.rtgs_http_requests.specs.Callers.{CodeOf, caller_under, known}
 use Rattle.rtgs_http_requests.specs.Exchange.{AsksFor, HasRegion, HasHead, HasRoute, HasCaller, HasBody}

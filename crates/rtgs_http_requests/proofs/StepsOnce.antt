@@ -4,9 +4,9 @@ use Rattle.std.proofs.Common.{Ok, Err, refl, sym, ap, ◌∙◌, arith}
 use Rattle.std.specs.Prelude.{◌≢◌}
 use Rattle.std.proofs.lemmas.List.{append_cancel_left}
 use Rattle.httparse.specs.Grammar.{RequestHead}
-use Rattle.rtgs_http_heads.specs.Heads.{IsGoodHead, fields_of}
-use Rattle.rtgs_http_heads.specs.Targets.{routed, is_post}
-use Rattle.rtgs_http_heads.specs.declared.route.Route.{Route}
+use Rattle.rtgs_http_requests.specs.heads.Heads.{IsGoodHead, fields_of}
+use Rattle.rtgs_http_requests.specs.heads.Targets.{routed, is_post}
+use Rattle.rtgs_http_requests.specs.declared.heads.route.Route.{Route}
 use Rattle.rtgs_http_requests.specs.Bodies.{body_length}
 use Rattle.rtgs_http_requests.specs.Callers.{CodeOf, caller_under}
 use Rattle.rtgs_http_requests.specs.Exchange.{AsksFor, HasRegion, HasHead, HasRoute, HasCaller, HasBody}

@@ -4,9 +4,9 @@ use Rattle.httparse.specs.Grammar.{RequestHead}
 use Rattle.rtgs_book.specs.declared.command.Command.{Command}
 use Rattle.rtgs_book.specs.declared.command.Command.TheVariants.{Add, SetCredit, Post, OpenDay, Order, Withdraw}
 use Rattle.rtgs_book.specs.declared.command.Command.TheVariants.{Resolve, CutOff, CloseDay}
-use Rattle.rtgs_http_feeds.specs.Region.{StartsWith}
-use Rattle.rtgs_http_heads.specs.Fields.{HasKey}
-use Rattle.rtgs_http_heads.specs.Heads.{IsGoodHead, fields_of}
+use Rattle.rtgs_http_requests.specs.feeds.Region.{StartsWith}
+use Rattle.rtgs_http_requests.specs.heads.Fields.{HasKey}
+use Rattle.rtgs_http_requests.specs.heads.Heads.{IsGoodHead, fields_of}
 use Rattle.rtgs_http_requests.specs.Callers.{CodeOf}
 use Rattle.rtgs_http_requests.specs.declared.asked.Asked.{Asked}
 use Rattle.rtgs_http_requests.specs.declared.asked.Asked.TheVariants.{Submit, Batch, Read}

@@ -1,9 +1,9 @@
 -- Whom a route takes.
 use Rattle.std.specs.Prelude.{◌≡◌, ◌≢◌, ℕ, List, Option, Some, None, Result, Ok, Err, if◌then◌else◌}
 use Rattle.std.specs.Str.{bytes_eq}
-use Rattle.rtgs_http_heads.specs.declared.bank_route.BankRoute.{BankRoute}
-use Rattle.rtgs_http_heads.specs.declared.route.Route.{Route}
-use Rattle.rtgs_http_heads.specs.declared.route.Route.TheVariants.{Bank, Operator}
+use Rattle.rtgs_http_requests.specs.declared.heads.bank_route.BankRoute.{BankRoute}
+use Rattle.rtgs_http_requests.specs.declared.heads.route.Route.{Route}
+use Rattle.rtgs_http_requests.specs.declared.heads.route.Route.TheVariants.{Bank, Operator}
 use Rattle.rtgs_http_requests.specs.declared.admission.Admission.{Admission}
 use Rattle.rtgs_http_requests.specs.declared.admission.Admission.TheVariants as admission
 use Rattle.rtgs_http_requests.specs.declared.admitted.Admitted.{Admitted}

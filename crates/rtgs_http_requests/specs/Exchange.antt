@@ -1,11 +1,11 @@
 -- What a whole input asks for, or the fault of the first step that fails.
 use Rattle.std.specs.Prelude.{◌≡◌, ◌≤◌, ◌<◌, ⊤, ℕ, List, length, take, Option, Some, None, Result, Ok, Err}
 use Rattle.httparse.specs.Grammar.{RequestHead}
-use Rattle.rtgs_http_feeds.specs.Region.{StartsWith, IsTooLong, IsOpen}
-use Rattle.rtgs_http_heads.specs.Fields.{HasKey}
-use Rattle.rtgs_http_heads.specs.Heads.{IsGoodHead, fields_of}
-use Rattle.rtgs_http_heads.specs.Targets.{routed, is_post}
-use Rattle.rtgs_http_heads.specs.declared.route.Route.{Route}
+use Rattle.rtgs_http_requests.specs.feeds.Region.{StartsWith, IsTooLong, IsOpen}
+use Rattle.rtgs_http_requests.specs.heads.Fields.{HasKey}
+use Rattle.rtgs_http_requests.specs.heads.Heads.{IsGoodHead, fields_of}
+use Rattle.rtgs_http_requests.specs.heads.Targets.{routed, is_post}
+use Rattle.rtgs_http_requests.specs.declared.heads.route.Route.{Route}
 use Rattle.rtgs_http_requests.specs.declared.admitted.Admitted.{Admitted}
 use Rattle.rtgs_http_requests.specs.declared.http_fault.HttpFault.{HttpFault}
 use Rattle.rtgs_http_requests.specs.declared.http_fault.HttpFault.TheVariants.{BadHead, HeadTooLong, Truncated}

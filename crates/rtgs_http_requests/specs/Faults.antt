@@ -5,8 +5,8 @@ use Rattle.rtgs_money.specs.Lexical.{lexical_kind_of}
 use Rattle.rtgs_order_files.specs.BatchFaults.{batch_kind_of}
 use Rattle.rtgs_order_files.specs.declared.batch_fault.BatchFault.{BatchFault}
 use Rattle.rtgs_order_files.specs.declared.batch_fault.BatchFault.TheVariants as batch
-use Rattle.rtgs_http_heads.specs.declared.head_fault.HeadFault.{HeadFault}
-use Rattle.rtgs_http_heads.specs.declared.head_fault.HeadFault.TheVariants as head
+use Rattle.rtgs_http_requests.specs.declared.heads.head_fault.HeadFault.{HeadFault}
+use Rattle.rtgs_http_requests.specs.declared.heads.head_fault.HeadFault.TheVariants as head
 use Rattle.rtgs_http_requests.specs.declared.http_fault.HttpFault.{HttpFault}
 use Rattle.rtgs_http_requests.specs.declared.http_fault.HttpFault.TheVariants as fault
 

@@ -8,3 +8,5 @@ pub mod Meaning
 pub mod Plans
 pub mod Same
 pub mod Steps
+pub mod feeds
+pub mod heads

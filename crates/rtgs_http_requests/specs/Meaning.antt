@@ -7,14 +7,15 @@ use Rattle.rtgs_money.specs.declared.lexical.Lexical.TheVariants.{BadCode, BadRe
 use Rattle.rtgs_book.specs.declared.command.Command.TheVariants as command
 use Rattle.rtgs_order_files.specs.OrderFile.{IsOrderFile, IsFaultOf}
 use Rattle.rtgs_order_files.specs.declared.batch_fault.BatchFault.TheVariants as batch
-use Rattle.rtgs_http_heads.specs.declared.bank_route.BankRoute.{BankRoute}
-use Rattle.rtgs_http_heads.specs.declared.bank_route.BankRoute.TheVariants.{SendOrder, WithdrawOrder, SendBatch}
-use Rattle.rtgs_http_heads.specs.declared.bank_route.BankRoute.TheVariants.{ReadOrder, ReadAccount, ReadQueue}
-use Rattle.rtgs_http_heads.specs.declared.bank_route.BankRoute.TheVariants.{ReadStatement}
-use Rattle.rtgs_http_heads.specs.declared.operator_route.OperatorRoute.{OperatorRoute}
-use Rattle.rtgs_http_heads.specs.declared.operator_route.OperatorRoute.TheVariants.{Post, SetCredit, OpenDay}
-use Rattle.rtgs_http_heads.specs.declared.operator_route.OperatorRoute.TheVariants.{Resolve, CutOff, CloseDay}
-use Rattle.rtgs_http_heads.specs.declared.operator_route.OperatorRoute.TheVariants.{ReadReport, ReadAccounts}
+use Rattle.rtgs_http_requests.specs.declared.heads.bank_route.BankRoute.{BankRoute}
+use Rattle.rtgs_http_requests.specs.declared.heads.bank_route.BankRoute.TheVariants.{SendOrder, WithdrawOrder}
+use Rattle.rtgs_http_requests.specs.declared.heads.bank_route.BankRoute.TheVariants.{SendBatch}
+use Rattle.rtgs_http_requests.specs.declared.heads.bank_route.BankRoute.TheVariants.{ReadOrder, ReadAccount, ReadQueue}
+use Rattle.rtgs_http_requests.specs.declared.heads.bank_route.BankRoute.TheVariants.{ReadStatement}
+use Rattle.rtgs_http_requests.specs.declared.heads.operator_route.OperatorRoute.{OperatorRoute}
+use Rattle.rtgs_http_requests.specs.declared.heads.operator_route.OperatorRoute.TheVariants.{Post, SetCredit, OpenDay}
+use Rattle.rtgs_http_requests.specs.declared.heads.operator_route.OperatorRoute.TheVariants.{Resolve, CutOff, CloseDay}
+use Rattle.rtgs_http_requests.specs.declared.heads.operator_route.OperatorRoute.TheVariants.{ReadReport, ReadAccounts}
 use Rattle.rtgs_http_requests.specs.declared.admitted.Admitted.{Admitted}
 use Rattle.rtgs_http_requests.specs.declared.admitted.Admitted.TheVariants as admitted
 use Rattle.rtgs_http_requests.specs.declared.asked.Asked.{Asked}

@@ -1,12 +1,12 @@
 -- What a head leaves to be known.
 use Rattle.std.specs.Prelude.{◌≡◌, ◌≢◌, ⊤, ℕ, List, Option, Some, Result, Ok, Err}
 use Rattle.httparse.specs.Grammar.{RequestHead}
-use Rattle.rtgs_http_feeds.specs.Region.{StartsWith}
-use Rattle.rtgs_http_heads.specs.Fields.{HasKey}
-use Rattle.rtgs_http_heads.specs.Heads.{IsGoodHead, fields_of}
-use Rattle.rtgs_http_heads.specs.Targets.{routed}
-use Rattle.rtgs_http_heads.specs.declared.bank_route.BankRoute.{BankRoute}
-use Rattle.rtgs_http_heads.specs.declared.route.Route.TheVariants.{Bank}
+use Rattle.rtgs_http_requests.specs.feeds.Region.{StartsWith}
+use Rattle.rtgs_http_requests.specs.heads.Fields.{HasKey}
+use Rattle.rtgs_http_requests.specs.heads.Heads.{IsGoodHead, fields_of}
+use Rattle.rtgs_http_requests.specs.heads.Targets.{routed}
+use Rattle.rtgs_http_requests.specs.declared.heads.bank_route.BankRoute.{BankRoute}
+use Rattle.rtgs_http_requests.specs.declared.heads.route.Route.TheVariants.{Bank}
 use Rattle.rtgs_http_requests.specs.Bodies.{body_length}
 use Rattle.rtgs_http_requests.specs.Callers.{CodeOf, known}
 use Rattle.rtgs_http_requests.specs.Exchange.{AsksFor, HasBody}

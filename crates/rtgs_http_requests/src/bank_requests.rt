@@ -6,10 +6,10 @@ ghost use Rattle.rtgs_http_requests.specs.Meaning.{AsksOrderName, AsksStatement,
 use crate::asked::Asked;
 use crate::body::read_json;
 use crate::contents::{is_nothing, order_of};
+use crate::heads::BankRoute;
 use crate::http_fault::HttpFault;
 use crate::spelling::{spell_date, spell_due, spell_reference};
 use rtgs_book::{Command, Reading};
-use rtgs_http_heads::BankRoute;
 use rtgs_money::{Amount, Code, Lexical, Reference};
 use rtgs_order_files::read_orders;
 use std::alloc::Global;

@@ -4,8 +4,8 @@ ghost use Rattle.std.specs.Result.{result_map_both};
 ghost use Rattle.serde_json.specs.View.{view};
 ghost use Rattle.rtgs_http_requests.specs.Bodies.{body_length, ReadsJson};
 
+use crate::feeds::limits::LONGEST_BODY;
 use crate::http_fault::HttpFault;
-use rtgs_http_feeds::limits::LONGEST_BODY;
 use serde_json::Value;
 use std::alloc::Global;
 

@@ -2,7 +2,7 @@
 ghost use Rattle.std.specs.Prelude.{◌≡◌};
 ghost use Rattle.rtgs_http_requests.specs.Faults.{http_kind_of};
 
-use rtgs_http_heads::HeadFault;
+use crate::heads::HeadFault;
 use rtgs_money::Lexical;
 use rtgs_order_files::BatchFault;
 use rtgs_refusals::RefusalKind;

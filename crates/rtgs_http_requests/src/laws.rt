@@ -9,10 +9,8 @@ ghost use Rattle.rtgs_http_requests.specs.declared.asked.Asked.{Asked};
 ghost use Rattle.rtgs_http_requests.specs.Access.{CarriesKey, MayAsk};
 ghost use Rattle.rtgs_http_requests.specs.declared.http_fault.HttpFault.{HttpFault};
 
-use rtgs_http_feeds::laws::{
-    every_input_has_an_outcome, outcomes_are_apart, regions_are_determined,
-};
-use rtgs_http_heads::laws::{heads_are_determined, keys_are_determined};
+use crate::feeds::laws::{every_input_has_an_outcome, outcomes_are_apart, regions_are_determined};
+use crate::heads::laws::{heads_are_determined, keys_are_determined};
 use rtgs_money::laws::dates_have_distinct_texts;
 use rtgs_order_files::laws::{
     faults_are_determined, order_files_have_no_fault, rows_are_determined,

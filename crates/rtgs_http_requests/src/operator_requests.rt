@@ -6,10 +6,10 @@ ghost use Rattle.rtgs_http_requests.specs.Meaning.{MeansOperator};
 use crate::asked::Asked;
 use crate::body::read_json;
 use crate::contents::{credit_of, date_of, is_nothing, opening_of, posting_of};
+use crate::heads::OperatorRoute;
 use crate::http_fault::HttpFault;
 use crate::spelling::{posting_amount, spell_date};
 use rtgs_book::{Command, Reading};
-use rtgs_http_heads::OperatorRoute;
 use rtgs_money::{BusinessDate, Code, Credit, Lexical, Reference};
 use std::alloc::Global;
 

@@ -2,8 +2,8 @@
 ghost use Rattle.std.specs.Prelude.{IfOk};
 
 use crate::admission::Admission;
+use crate::heads::Head;
 use crate::http_fault::HttpFault;
-use rtgs_http_heads::Head;
 use rtgs_money::KeyDigest;
 use std::alloc::Global;
 

@@ -8,14 +8,14 @@ use Rattle.rtgs_book.specs.Session.{MayFind, answered, answers}
 use Rattle.rtgs_keeper.specs.declared.keeper.Keeper.{Ghosts}
 use Rattle.rtgs_desk.specs.Holding.{Holds}
 use Rattle.rtgs_desk.specs.Seen.{Seen}
-use Rattle.rtgs_http_input.specs.Input.{OfInput}
-use Rattle.rtgs_http_input.specs.declared.reader_failed.ReaderFailed.{ReaderFailed}
-use Rattle.rtgs_http_replies.specs.Messages.{Message}
-use Rattle.rtgs_http_banks.specs.Handling.{Makes, given}
-use Rattle.rtgs_http_banks.specs.Exchange.{Exchanges}
-use Rattle.rtgs_http_banks.specs.Serving.{Serves}
-use Rattle.rtgs_http_banks.specs.declared.served.Served.{Served}
-use Rattle.rtgs_http_banks.specs.declared.served.Served.TheVariants.{Answered, ReadFault, WriteFault}
+use Rattle.rtgs_http_server.specs.input.Input.{OfInput}
+use Rattle.rtgs_http_server.specs.declared.input.reader_failed.ReaderFailed.{ReaderFailed}
+use Rattle.rtgs_http_bodies.specs.replies.Messages.{Message}
+use Rattle.rtgs_http_server.specs.banks.Handling.{Makes, given}
+use Rattle.rtgs_http_server.specs.banks.Exchange.{Exchanges}
+use Rattle.rtgs_http_server.specs.banks.Serving.{Serves}
+use Rattle.rtgs_http_server.specs.declared.banks.served.Served.{Served}
+use Rattle.rtgs_http_server.specs.declared.banks.served.Served.TheVariants.{Answered, ReadFault, WriteFault}
 use Rattle.rtgs_http_server.specs.Requests.{IsAsked, WorksForAll, and_then}
 
 -- the reader's bytes are an input, whether they are known or not

@@ -1,14 +1,14 @@
 //! Connections served one after another.
 ghost use Rattle.std.specs.Prelude.{◌≡◌, ◌+◌, ◌<◌, true, false};
-ghost use Rattle.rtgs_book.specs.declared.Book.{Book};
+ghost use Rattle.rtgs_book.specs.declared.book.Book.{Book};
 ghost use Rattle.rtgs_desk.specs.Holding.{Holds};
 ghost use Rattle.rtgs_http_server.specs.Requests.{WorksForAll};
 
+use crate::banks::laws::requests_join;
+use crate::banks::{Served, serve_one};
 use crate::connections::Connections;
 use crate::laws::a_desk_at_rest_works_for_all;
 use rtgs_desk::Desk;
-use rtgs_http_banks::laws::requests_join;
-use rtgs_http_banks::{Served, serve_one};
 use rtgs_keeper::Keeper;
 use rtgs_money::KeyDigest;
 use std::alloc::Global;

@@ -1,8 +1,8 @@
 -- What calls leave of a keeper. The first parameters are the members of its trait.
 use Rattle.std.specs.Prelude.{◌≡◌, ◌≢◌, Bool, true, Result, Err}
-use Rattle.rtgs_book.specs.declared.Book.{Book}
-use Rattle.rtgs_book.specs.declared.Fault.{Fault}
-use Rattle.rtgs_book.specs.declared.Fault.TheVariants.{StoreFault}
+use Rattle.rtgs_book.specs.declared.book.Book.{Book}
+use Rattle.rtgs_book.specs.declared.fault.Fault.{Fault}
+use Rattle.rtgs_book.specs.declared.fault.Fault.TheVariants.{StoreFault}
 use Rattle.rtgs_keeper.specs.declared.commit_fault.CommitFault.{CommitFault}
 use Rattle.rtgs_keeper.specs.declared.commit_fault.CommitFault.TheVariants.{Store, Failed}
 

@@ -1,17 +1,16 @@
 //! What keeps a book.
 ghost use Rattle.std.specs.Prelude.{◌≡◌, ◌≢◌, ◌⊎◌, Bool, Err, IfOk, IfErr, OnOk};
 ghost use Rattle.rtgs_book.specs.Lookup.{order_named, posting_named};
-ghost use Rattle.rtgs_cores.specs.Cores.{IsCoreOf};
-ghost use Rattle.rtgs_cores.specs.Nexts.{posting_after, order_after, mark_after};
-ghost use Rattle.rtgs_book.specs.declared.Book.{Book};
-ghost use Rattle.rtgs_book.specs.declared.Fault.{Fault};
-ghost use Rattle.rtgs_book.specs.declared.Rule.{Rule};
+ghost use Rattle.rtgs_book.specs.cores.Cores.{IsCoreOf};
+ghost use Rattle.rtgs_book.specs.cores.Nexts.{posting_after, order_after, mark_after};
+ghost use Rattle.rtgs_book.specs.declared.book.Book.{Book};
+ghost use Rattle.rtgs_book.specs.declared.fault.Fault.{Fault};
+ghost use Rattle.rtgs_book.specs.declared.rule.Rule.{Rule};
 ghost use Rattle.rtgs_book.specs.Changes.{IsChange};
 ghost use Rattle.rtgs_keeper.specs.Calls.{OnlyReads, TellsCommitFaults};
 
 use crate::commit_fault::CommitFault;
-use rtgs_book::{Change, Fault, Mark, Order, Posting};
-use rtgs_cores::Core;
+use rtgs_book::{Change, Core, Fault, Mark, Order, Posting};
 use rtgs_money::{BusinessDate, Code, Reference};
 use std::alloc::Global;
 

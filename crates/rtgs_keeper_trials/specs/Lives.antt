@@ -9,7 +9,7 @@ use Rattle.rtgs_book.specs.Outcome.{Reply}
 use Rattle.rtgs_book.specs.Run.{Run}
 use Rattle.rtgs_book.specs.Session.{Session, IsLife}
 use Rattle.rtgs_book.specs.Soundness.{IsSound}
-use Rattle.rtgs_repeats.specs.Lives.{AreLived}
+use Rattle.rtgs_laws.specs.repeats.Lives.{AreLived}
 
 -- Commands with these replies, from the new book, and more with others, from the book that the stop between them left.
 -- `found` is the book that the last opening found.

@@ -19,10 +19,10 @@ use Rattle.rtgs_book.specs.declared.limits.TheConstants.{MOST_PARTICIPANTS}
 use Rattle.rtgs_book.specs.Balance.{balance}
 use Rattle.rtgs_book.specs.Changes.{Leads, balance_set}
 use Rattle.rtgs_book.specs.Lookup.{accounts}
-use Rattle.rtgs_accounts.specs.Accounts.{code_of, is_of, has_key, with_account}
+use Rattle.rtgs_records.specs.accounts.Accounts.{code_of, is_of, has_key, with_account}
 use Rattle.rtgs_ledger.proofs.Balances.{all_same, balance_unknown}
 use Rattle.rtgs_ledger.proofs.Kept.{participant_none, is_unknown, any-participants, length-participants, prepared_done}
-use Rattle.rtgs_cores.specs.Following.{AreBalanced}
+use Rattle.rtgs_book.specs.cores.Following.{AreBalanced}
 use Rattle.rtgs_ledger.proofs.Whole.{IsKept, IsPrepared, Whole, book_of, held_of}
 use Rattle.rtgs_lists.proofs.Filters.{all_put_in}
 use Rattle.rtgs_lists.proofs.Lists.{all_of}

@@ -11,7 +11,7 @@ use Rattle.rtgs_book.specs.IntSum.{int_sum_by}
 use Rattle.rtgs_book.specs.Lookup.{accounts}
 use Rattle.rtgs_book.specs.Queue.{waiting}
 use Rattle.rtgs_book.specs.Soundness.{IsSound}
-use Rattle.rtgs_accounts.specs.Accounts.{AreOfABook, participant_of, code_of, key_of}
+use Rattle.rtgs_records.specs.accounts.Accounts.{AreOfABook, participant_of, code_of, key_of}
 use Rattle.rtgs_ledger.specs.Alone.{book_of_participants}
 use Rattle.rtgs_lists.proofs.Lists.{all_of}
 

@@ -17,7 +17,7 @@ use Rattle.rtgs_book.specs.Lookup.{accounts, is_participant}
 use Rattle.rtgs_book.specs.IntSum.{int_sum_by}
 use Rattle.rtgs_book.specs.Soundness.{has_parties, PartiesAreKnown}
 use Rattle.rtgs_book.specs.declared.account.Account.{Account}
-use Rattle.rtgs_accounts.specs.Accounts.{code_of, is_of, rebalanced, with_balance}
+use Rattle.rtgs_records.specs.accounts.Accounts.{code_of, is_of, rebalanced, with_balance}
 use Rattle.rtgs_lists.proofs.Codes.{bytes_eq_comm}
 use Rattle.rtgs_lists.proofs.Lists.{all_weaker}
 use Rattle.rtgs_lists.proofs.Sums.{int_sum_by-append}

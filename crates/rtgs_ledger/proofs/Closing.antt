@@ -29,15 +29,15 @@ use Rattle.rtgs_choices.specs.Closing.{closed_book, closing_rows}
 use Rattle.rtgs_choices.specs.Settling.{state_rows}
 use Rattle.rtgs_book.specs.declared.account.Account.{Account}
 use Rattle.rtgs_book.specs.Accounts.{is_overdrawn}
-use Rattle.rtgs_accounts.specs.Accounts.{code_of, participant_of}
+use Rattle.rtgs_records.specs.accounts.Accounts.{code_of, participant_of}
 use Rattle.rtgs_ledger.proofs.Balances.{all_same}
 use Rattle.rtgs_ledger.proofs.Ordering.{is_shut, is_opened, is_day}
 use Rattle.rtgs_ledger.proofs.Rooms.{after-append, accounts_after-states}
 use Rattle.rtgs_ledger.specs.Closing.{IsClosable}
 use Rattle.rtgs_ledger.specs.Kept.{IsRefusedByItself}
-use Rattle.rtgs_queues.specs.Laws.{QueuesAreOfTheWaiting}
+use Rattle.rtgs_records.specs.queues.Laws.{QueuesAreOfTheWaiting}
 use Rattle.rtgs_ledger.proofs.Reading.{numbers_are}
-use Rattle.rtgs_cores.specs.Following.{AreBalanced}
+use Rattle.rtgs_book.specs.cores.Following.{AreBalanced}
 use Rattle.rtgs_ledger.proofs.Whole.{Held, IsKept, IsPrepared, Whole, after, book_of, held_of}
 
 not_closed : (p : Phase) → is_cut_off p ≡ true → is_closed p ≡ false

@@ -16,7 +16,7 @@ use Rattle.rtgs_book.specs.Commands.{set_credit, with_credit}
 use Rattle.rtgs_book.specs.Lookup.{accounts, is_participant}
 use Rattle.rtgs_book.specs.Outcome.{first_of}
 use Rattle.rtgs_book.specs.Step.{OwnStep}
-use Rattle.rtgs_accounts.specs.Accounts.{with_limit}
+use Rattle.rtgs_records.specs.accounts.Accounts.{with_limit}
 use Rattle.rtgs_ledger.proofs.Balances.{all_same}
 use Rattle.rtgs_ledger.proofs.Kept.{prepared_done}
 use Rattle.rtgs_ledger.proofs.Resolving.{balanced_limit}

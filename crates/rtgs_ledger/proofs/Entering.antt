@@ -11,7 +11,7 @@ use Rattle.rtgs_book.specs.Books.{is_held}
 use Rattle.rtgs_book.specs.Changes.{changed}
 use Rattle.rtgs_book.specs.Commands.{entered, has_number, is_due, is_due_by, is_held_with, let_in}
 use Rattle.rtgs_book.specs.Soundness.{OrdersAreNumbered}
-use Rattle.rtgs_queues.specs.Laws.{NumbersLeadToOrders}
+use Rattle.rtgs_records.specs.queues.Laws.{NumbersLeadToOrders}
 use Rattle.rtgs_ledger.proofs.Withdrawing.{alone_in_number}
 use Rattle.rtgs_lists.proofs.Lists.{all_weaker}
 use Rattle.rtgs_lists.proofs.Numbers.{eq_self}

@@ -37,10 +37,10 @@ use Rattle.rtgs_book.specs.Soundness.{FloorsHold, IsSound}
 use Rattle.rtgs_book.specs.Step.{OwnStep, Step, Ends, is_followed, may_free}
 use Rattle.rtgs_choices.specs.Settling.{IsOfBalance}
 use Rattle.rtgs_choices.specs.Joining.{without_balances, balances_between, joined_rows}
-use Rattle.rtgs_accounts.specs.Accounts.{code_of, is_of, with_limit}
-use Rattle.rtgs_cores.specs.declared.Core.{Core}
-use Rattle.rtgs_cores.specs.Cores.{IsCoreOf, account_of, core_of}
-use Rattle.rtgs_cores.specs.Following.{WaitsNoMore, AreBalanced, core_after}
+use Rattle.rtgs_records.specs.accounts.Accounts.{code_of, is_of, with_limit}
+use Rattle.rtgs_book.specs.declared.cores.cores.Core.{Core}
+use Rattle.rtgs_book.specs.cores.Cores.{IsCoreOf, account_of, core_of}
+use Rattle.rtgs_book.specs.cores.Following.{WaitsNoMore, AreBalanced, core_after}
 use Rattle.rtgs_records.specs.Held.{Held, HasRoom, after_row}
 use Rattle.rtgs_ledger.specs.Following.{day_after, adds_mark, AddsNoParticipant, FreesOrders, Settles, SettlesOrders}
 use Rattle.rtgs_ledger.specs.Following.{sets_no_balance, is_still, has_moved, moved_between, joined, Follows}

@@ -22,25 +22,25 @@ use Rattle.rtgs_book.specs.declared.order_state.OrderState.{OrderState}
 use Rattle.rtgs_book.specs.declared.order_state.OrderState.TheVariants.{Queued, Held, Settled, Withdrawn, Rejected}
 use Rattle.rtgs_book.specs.declared.participant.Participant.{Participant}
 use Rattle.rtgs_book.specs.Books.{is_queued, is_queued_state, is_waiting, is_waiting_state}
-use Rattle.rtgs_accounts.specs.Accounts.{participant_of}
+use Rattle.rtgs_records.specs.accounts.Accounts.{participant_of}
 use Rattle.std.specs.Str.{bytes_eq}
 use Rattle.std.proofs.Common.{◌&&◌, Bool, true, false}
 use Rattle.rtgs_lists.proofs.Filters.{filter_shorter}
 use Rattle.rtgs_lists.proofs.Lists.{all_weaker}
 use Rattle.rtgs_book.specs.declared.account.Account.{Account}
 use Rattle.rtgs_book.specs.declared.limits.TheConstants.{LONGEST_QUEUE, MOST_PARTICIPANTS, MOST_QUEUED}
-use Rattle.rtgs_accounts.specs.Accounts.{code_of, is_of, CodesRiseStrictly}
+use Rattle.rtgs_records.specs.accounts.Accounts.{code_of, is_of, CodesRiseStrictly}
 use Rattle.rtgs_ledger.specs.Choosing.{position_at, taken_from, positions_in, queues_in}
 use Rattle.rtgs_ledger.proofs.Kept.{codes-participants, floor_at as floor_is}
-use Rattle.rtgs_cores.specs.Following.{AreBalanced}
-use Rattle.rtgs_cores.specs.Cores.{IsCoreOf}
+use Rattle.rtgs_book.specs.cores.Following.{AreBalanced}
+use Rattle.rtgs_book.specs.cores.Cores.{IsCoreOf}
 use Rattle.rtgs_gridlock.specs.declared.queues.Payment.{Payment}
 use Rattle.rtgs_gridlock.specs.Choices.{AreFloored, AreInRange, payment_count}
 use Rattle.rtgs_records.specs.declared.records.Records.{Records}
 use Rattle.rtgs_records.specs.Held as seen
 use Rattle.rtgs_records.specs.Records.{held_of as seen_of}
 use Rattle.rtgs_ledger.specs.Resolving.{AreGreatest, CanResolve}
-use Rattle.rtgs_queues.specs.Laws.{QueuesAreOfTheWaiting}
+use Rattle.rtgs_records.specs.queues.Laws.{QueuesAreOfTheWaiting}
 use Rattle.rtgs_lists.proofs.Codes.{later_differs}
 use Rattle.rtgs_ledger.proofs.Loading.{in_order}
 use Rattle.rtgs_ledger.proofs.Reading.{queue_is}

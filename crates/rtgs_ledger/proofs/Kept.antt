@@ -24,8 +24,8 @@ use Rattle.rtgs_book.specs.Lookup.{has_code, accounts, is_participant, credit_of
 use Rattle.rtgs_book.specs.Step.{OwnStep}
 use Rattle.rtgs_book.specs.declared.account.Account.{Account}
 use Rattle.rtgs_book.specs.declared.limits.TheConstants.{LARGEST_BALANCE}
-use Rattle.rtgs_accounts.specs.Accounts.{code_of, participant_of, balance_of, is_of, has_key}
-use Rattle.rtgs_cores.specs.Following.{AreBalanced}
+use Rattle.rtgs_records.specs.accounts.Accounts.{code_of, participant_of, balance_of, is_of, has_key}
+use Rattle.rtgs_book.specs.cores.Following.{AreBalanced}
 use Rattle.rtgs_ledger.proofs.Whole.{Held, IsKept, IsPrepared, Whole, after, book_of, held_of}
 use Rattle.rtgs_lists.proofs.Codes.{bytes_eq_comm}
 use Rattle.rtgs_lists.proofs.Lists.{all_of}

@@ -2,7 +2,7 @@
 use Rattle.std.proofs.Common.{◌≡◌, ℕ, Bool, true, false, cond, List, [], ◌∷◌, map, find, Some, refl}
 use Rattle.std.specs.Option.{option_map}
 use Rattle.rtgs_book.specs.declared.account.Account.{Account}
-use Rattle.rtgs_accounts.specs.Accounts.{has_key, code_of, participant_of}
+use Rattle.rtgs_records.specs.accounts.Accounts.{has_key, code_of, participant_of}
 use Rattle.rtgs_ledger.specs.Keys.{is_key_of}
 use Rattle.rtgs_book.specs.declared.participant.Participant.{Participant}
 

@@ -10,10 +10,10 @@ use Rattle.rtgs_book.specs.declared.participant.Participant.{Participant}
 use Rattle.rtgs_book.specs.Books.{is_waiting}
 use Rattle.rtgs_book.specs.Lookup.{accounts}
 use Rattle.rtgs_book.specs.Soundness.{OrdersAreNumbered}
-use Rattle.rtgs_cores.specs.declared.Core.{Core}
-use Rattle.rtgs_cores.specs.Cores.{account_of, core_of, IsCoreOf}
-use Rattle.rtgs_accounts.specs.Accounts.{CodesRiseStrictly, AreOfABook, code_of, key_of}
-use Rattle.rtgs_queues.specs.Orders.{AreRising, AreWaiting}
+use Rattle.rtgs_book.specs.declared.cores.cores.Core.{Core}
+use Rattle.rtgs_book.specs.cores.Cores.{account_of, core_of, IsCoreOf}
+use Rattle.rtgs_records.specs.accounts.Accounts.{CodesRiseStrictly, AreOfABook, code_of, key_of}
+use Rattle.rtgs_records.specs.queues.Orders.{AreRising, AreWaiting}
 
 own_codes : (book : Book) (ps : List Participant) → map code_of (map (account_of book) ps) ≡ map (λ
     (p : Participant). p.code) ps

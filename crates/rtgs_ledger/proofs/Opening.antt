@@ -21,11 +21,11 @@ use Rattle.rtgs_book.specs.Books.{is_settled, is_waiting, is_waiting_state, is_h
 use Rattle.rtgs_book.specs.declared.order_state.OrderState.{OrderState}
 use Rattle.rtgs_book.specs.declared.order_state.OrderState.TheVariants as state
 use Rattle.rtgs_book.specs.Changes.{StartsEmpty, changed, with_row}
-use Rattle.rtgs_queues.specs.Laws.{NumbersLeadToOrders}
+use Rattle.rtgs_records.specs.queues.Laws.{NumbersLeadToOrders}
 use Rattle.rtgs_ledger.proofs.Entering.{enter_rows, due_numbers, due_enter}
 use Rattle.rtgs_ledger.proofs.Whole.{after, after_row}
 use Rattle.rtgs_ledger.proofs.Withdrawing.{waits_unsettled}
-use Rattle.rtgs_cores.specs.Following.{AreBalanced}
+use Rattle.rtgs_book.specs.cores.Following.{AreBalanced}
 use Rattle.std.proofs.Common.{Bool, ◌++◌, filter, ap, ◌∙◌, sym, subst}
 use Rattle.std.proofs.lemmas.Bool.{and_parts}
 use Rattle.std.specs.List.{AllByRecursion}

@@ -40,20 +40,20 @@ use Rattle.rtgs_book.specs.Commands.{has_number, is_same_due, is_due_too_early, 
 use Rattle.rtgs_book.specs.Lookup.{accounts, is_participant, order_named}
 use Rattle.rtgs_book.specs.Outcome.{first_of}
 use Rattle.rtgs_book.specs.Queue.{queue, waiting, queued_numbers}
-use Rattle.rtgs_queues.specs.Orders.{numbers_among}
+use Rattle.rtgs_records.specs.queues.Orders.{numbers_among}
 use Rattle.rtgs_lists.proofs.Bools.{and_true}
 use Rattle.rtgs_book.specs.Settle.{restated, settle, mark_of, next_mark, today}
 use Rattle.rtgs_book.specs.Soundness.{OrdersAreNumbered}
 use Rattle.rtgs_book.specs.Step.{OwnStep}
 use Rattle.rtgs_book.specs.declared.account.Account.{Account}
 use Rattle.rtgs_book.specs.declared.limits.TheConstants.{LONGEST_QUEUE, LARGEST_NUMBER}
-use Rattle.rtgs_accounts.specs.Accounts.{code_of, is_of, with_balance}
+use Rattle.rtgs_records.specs.accounts.Accounts.{code_of, is_of, with_balance}
 use Rattle.rtgs_ledger.specs.Kept.{WouldAct}
 use Rattle.rtgs_ledger.specs.Kinds.{answers_an_order}
 use Rattle.rtgs_ledger.specs.Ordering.{IsTaken, IsDueRefused, is_too_early, waiting_answer}
 use Rattle.rtgs_ledger.proofs.Balances.{other_int, moved, all_moved, all_same, balance-with_order}
 use Rattle.rtgs_ledger.proofs.Kept.{found_balance, found_is, is_known, balance_at, floor_at as floor_is, prepared_done}
-use Rattle.rtgs_cores.specs.declared.Core.{Core}
+use Rattle.rtgs_book.specs.declared.cores.cores.Core.{Core}
 use Rattle.rtgs_records.specs.declared.records.Records.{Records}
 use Rattle.rtgs_ledger.proofs.Whole.{Held, IsKept, IsOf, IsPrepared, Whole, book_of, held_of, whole}
 use Rattle.rtgs_lists.proofs.Filters.{filter_nothing}

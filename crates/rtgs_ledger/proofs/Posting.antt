@@ -23,7 +23,7 @@ use Rattle.rtgs_book.specs.declared.change.RowChange.TheVariants.{AddPosting, Se
 use Rattle.rtgs_book.specs.Changes.{Leads, balance_set}
 use Rattle.rtgs_book.specs.declared.account.Account.{Account}
 use Rattle.rtgs_book.specs.declared.limits.TheConstants.{LARGEST_NUMBER, LARGEST_TOTAL}
-use Rattle.rtgs_accounts.specs.Accounts.{is_of, with_balance}
+use Rattle.rtgs_records.specs.accounts.Accounts.{is_of, with_balance}
 use Rattle.rtgs_ledger.proofs.Balances.{other_int, moved, all_moved, all_same, balance-with_posting}
 use Rattle.rtgs_ledger.proofs.Kept.{is_known, balance_at, prepared_done}
 use Rattle.rtgs_ledger.proofs.Whole.{IsKept, IsPrepared, Whole, book_of, held_of}

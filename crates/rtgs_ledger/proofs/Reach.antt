@@ -11,7 +11,7 @@ use Rattle.std.specs.List.{AllByRecursion}
 use Rattle.std.specs.Ordering.{int_eq}
 use Rattle.std.specs.Str.{bytes_eq}
 use Rattle.std.specs.Cmp.Lexicographic.{bytes_decides}
-use Rattle.rtgs_accounts.specs.Accounts.{is_of}
+use Rattle.rtgs_records.specs.accounts.Accounts.{is_of}
 use Rattle.rtgs_book.specs.declared.account.Account.{Account}
 use Rattle.rtgs_book.specs.declared.book.Book.{Book}
 use Rattle.rtgs_book.specs.declared.change.RowChange.TheVariants.{AddOrder, SetState}
@@ -27,8 +27,8 @@ use Rattle.rtgs_book.specs.Lookup.{accounts, credit_of, is_participant, particip
 use Rattle.rtgs_book.specs.Queue.{queue, queued_among, queued_numbers}
 use Rattle.rtgs_book.specs.Settle.{altered, in_state}
 use Rattle.rtgs_book.specs.Soundness.{IsSound, OrdersAreNumbered, has_parties}
-use Rattle.rtgs_cores.specs.declared.Core.{Core}
-use Rattle.rtgs_cores.specs.Cores.{IsCoreOf, core_of}
+use Rattle.rtgs_book.specs.declared.cores.cores.Core.{Core}
+use Rattle.rtgs_book.specs.cores.Cores.{IsCoreOf, core_of}
 use Rattle.rtgs_laws.specs.Quiet.{AreOutOfReach, FreesNothing, GainsNothing, KeepsQueue, brings, queued_to, value_of}
 use Rattle.rtgs_ledger.specs.Freeing.{IsLast, IsShort}
 use Rattle.rtgs_ledger.proofs.Balances.{balance-with_order}
@@ -44,8 +44,8 @@ use Rattle.rtgs_lists.proofs.Finds.{all_found}
 use Rattle.rtgs_lists.proofs.Lists.{all_filter, all_of, all_weaker}
 use Rattle.rtgs_lists.proofs.Numbers.{same_from_int_eq}
 use Rattle.rtgs_lists.proofs.Sums.{int_sum_by-append}
-use Rattle.rtgs_queues.specs.Laws.{NumbersLeadToOrders, QueuesAreOfTheWaiting, QueuesRise}
-use Rattle.rtgs_queues.specs.Orders.{AreRising}
+use Rattle.rtgs_records.specs.queues.Laws.{NumbersLeadToOrders, QueuesAreOfTheWaiting, QueuesRise}
+use Rattle.rtgs_records.specs.queues.Orders.{AreRising}
 
 all_last : {X : Type 0} (P : X → Type 0) (xs : List X) (x : X) → AllByRecursion P (xs ++ x ∷ []) → P x
 all_last P [] x h = h.0

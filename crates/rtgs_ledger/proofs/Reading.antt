@@ -5,7 +5,7 @@ use Rattle.rtgs_book.specs.declared.order.Order.{Order}
 use Rattle.rtgs_book.specs.Books.{is_waiting}
 use Rattle.rtgs_book.specs.Commands.{has_number}
 use Rattle.rtgs_book.specs.Queue.{queue, queued_among, queued_numbers}
-use Rattle.rtgs_queues.specs.Laws.{QueuesAreOfTheWaiting}
+use Rattle.rtgs_records.specs.queues.Laws.{QueuesAreOfTheWaiting}
 
 -- each number of a queue leads to an order
 pub leads_home : (os queue : List Order) (numbers : List ℕ) → ((k : ℕ) (d : Order) → k < length numbers

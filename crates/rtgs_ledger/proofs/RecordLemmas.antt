@@ -2,7 +2,7 @@
 use Rattle.std.proofs.Common.{◌≡◌, ℕ, ◌≤◌, List, [], ◌∷◌, length, drop, refl, ap, ◌∙◌}
 use Rattle.std.proofs.lemmas.List.{drop_all}
 use Rattle.rtgs_book.specs.declared.change.RowChange.{RowChange}
-use Rattle.rtgs_cores.specs.Following.{core_after}
+use Rattle.rtgs_book.specs.cores.Following.{core_after}
 use Rattle.rtgs_records.specs.Held.{Held, after_row}
 
 -- what the rows leave

@@ -33,12 +33,12 @@ use Rattle.rtgs_book.specs.Step.{OwnStep}
 use Rattle.rtgs_choices.specs.Settling.{orders_taken, numbers_taken, state_rows, IsOfBalance, moves, balance_rows}
 use Rattle.rtgs_choices.specs.Settling.{settling_rows}
 use Rattle.rtgs_book.specs.declared.account.Account.{Account}
-use Rattle.rtgs_accounts.specs.Accounts.{code_of, participant_of, is_of, with_balance, with_limit}
+use Rattle.rtgs_records.specs.accounts.Accounts.{code_of, participant_of, is_of, with_balance, with_limit}
 use Rattle.rtgs_ledger.specs.Kept.{WouldAct}
 use Rattle.rtgs_ledger.specs.Resolving.{AreGreatest, after_orders, moved_rows}
 use Rattle.rtgs_ledger.proofs.Balances.{moved, all_moved}
 use Rattle.rtgs_ledger.proofs.Kept.{codes-participants, no_balance_set}
-use Rattle.rtgs_cores.specs.Following.{AreBalanced}
+use Rattle.rtgs_book.specs.cores.Following.{AreBalanced}
 use Rattle.rtgs_ledger.proofs.Whole.{Held, IsKept, IsPrepared, Whole, after, after_row, held_of}
 use Rattle.rtgs_lists.proofs.Lists.{all_weaker}
 use Rattle.rtgs_lists.proofs.Numbers.{same_from_int_eq}

@@ -15,9 +15,9 @@ use Rattle.rtgs_book.specs.IntSum.{int_sum_by}
 use Rattle.rtgs_book.specs.Totals.{Within}
 use Rattle.rtgs_book.specs.declared.account.Account.{Account}
 use Rattle.rtgs_book.specs.declared.limits.TheConstants.{MOST_QUEUED, LARGEST_BALANCE}
-use Rattle.rtgs_accounts.specs.Accounts.{code_of, participant_of, after_order}
+use Rattle.rtgs_records.specs.accounts.Accounts.{code_of, participant_of, after_order}
 use Rattle.rtgs_ledger.specs.Resolving.{AreSmall, after_orders, moved_accounts}
-use Rattle.rtgs_cores.specs.Following.{AreBalanced}
+use Rattle.rtgs_book.specs.cores.Following.{AreBalanced}
 use Rattle.rtgs_lists.proofs.Lists.{all_weaker}
 use Rattle.rtgs_lists.proofs.Sums.{int_sum_by-append}
 

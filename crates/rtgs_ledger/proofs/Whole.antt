@@ -27,11 +27,11 @@ use Rattle.rtgs_book.specs.Outcome.{is_done}
 use Rattle.rtgs_book.specs.Ranges.{Fits}
 use Rattle.rtgs_book.specs.Soundness.{IsSound}
 use Rattle.rtgs_book.specs.Step.{OwnStep}
-use Rattle.rtgs_cores.specs.declared.Core.{Core}
-use Rattle.rtgs_cores.specs.Cores.{account_of, core_of, IsCoreOf}
-use Rattle.rtgs_cores.specs.Following.{AreBalanced, core_after_row, core_after}
+use Rattle.rtgs_book.specs.declared.cores.cores.Core.{Core}
+use Rattle.rtgs_book.specs.cores.Cores.{account_of, core_of, IsCoreOf}
+use Rattle.rtgs_book.specs.cores.Following.{AreBalanced, core_after_row, core_after}
 use Rattle.rtgs_records.specs.declared.records.Records.{Records}
-use Rattle.rtgs_accounts.specs.Accounts.{AccountList, participant_of, with_account, with_balance, with_limit}
+use Rattle.rtgs_records.specs.accounts.Accounts.{AccountList, participant_of, with_account, with_balance, with_limit}
 use Rattle.rtgs_records.specs.Held as seen
 use Rattle.rtgs_ledger.specs.Kept as kept
 use Rattle.rtgs_records.specs.Records.{core_in, held_of as seen_of}

@@ -24,7 +24,7 @@ use Rattle.rtgs_book.specs.Soundness.{OrdersAreNumbered}
 use Rattle.rtgs_book.specs.Step.{OwnStep}
 use Rattle.rtgs_ledger.proofs.Balances.{all_same}
 use Rattle.rtgs_ledger.proofs.Kept.{prepared_done}
-use Rattle.rtgs_queues.specs.Laws.{NumbersLeadToOrders}
+use Rattle.rtgs_records.specs.queues.Laws.{NumbersLeadToOrders}
 use Rattle.rtgs_ledger.proofs.Whole.{Held, IsKept, IsPrepared}
 use Rattle.rtgs_lists.proofs.Lists.{all_of, all_weaker}
 use Rattle.rtgs_lists.proofs.Finds.{all_found}

@@ -1,8 +1,8 @@
 -- Participants without records.
 use Rattle.std.specs.Prelude.{false, List, [], None}
-use Rattle.rtgs_book.specs.declared.Book.{Book}
-use Rattle.rtgs_book.specs.declared.Participant.{Participant}
-use Rattle.rtgs_book.specs.declared.Phase.TheVariants.{Closed}
+use Rattle.rtgs_book.specs.declared.book.Book.{Book}
+use Rattle.rtgs_book.specs.declared.participant.Participant.{Participant}
+use Rattle.rtgs_book.specs.declared.phase.Phase.TheVariants.{Closed}
 
 -- the book of these participants before its first day, to whom nothing was posted
 abbrev pub book_of_participants : List Participant → Book

@@ -7,10 +7,10 @@ use Rattle.rtgs_book.specs.declared.order.Order.{Order}
 use Rattle.rtgs_book.specs.declared.phase.Phase.{Phase}
 use Rattle.rtgs_book.specs.Balance.{floor_at}
 use Rattle.rtgs_book.specs.Queue.{queued_among}
-use Rattle.rtgs_cores.specs.declared.Core.{Core}
+use Rattle.rtgs_book.specs.declared.cores.cores.Core.{Core}
 use Rattle.rtgs_gridlock.specs.declared.positions.Position.{Position}
 use Rattle.rtgs_gridlock.specs.declared.queues.Payment.{Payment}
-use Rattle.rtgs_accounts.specs.Accounts.{code_of}
+use Rattle.rtgs_records.specs.accounts.Accounts.{code_of}
 
 -- the balance of an account, and the least that it may be
 abbrev pub position_at : Phase → Account → Position

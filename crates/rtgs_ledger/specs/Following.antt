@@ -16,9 +16,9 @@ use Rattle.rtgs_book.specs.declared.refusal.Refusal.TheVariants.{OutOfMemory}
 use Rattle.rtgs_book.specs.Books.{is_automatic, is_waiting_state}
 use Rattle.rtgs_book.specs.Outcome.{is_done}
 use Rattle.rtgs_book.specs.Step.{OwnStep, may_free}
-use Rattle.rtgs_cores.specs.declared.Core.{Core}
-use Rattle.rtgs_cores.specs.Cores.{IsCoreOf}
-use Rattle.rtgs_accounts.specs.Accounts.{code_of, is_of}
+use Rattle.rtgs_book.specs.declared.cores.cores.Core.{Core}
+use Rattle.rtgs_book.specs.cores.Cores.{IsCoreOf}
+use Rattle.rtgs_records.specs.accounts.Accounts.{code_of, is_of}
 use Rattle.rtgs_choices.specs.Joining.{sets_balance, without_balances}
 use Rattle.rtgs_ledger.specs.Kept.{IsPreparedByItself}
 

@@ -16,8 +16,8 @@ use Rattle.rtgs_book.specs.Laws.{CommandFits}
 use Rattle.rtgs_book.specs.Outcome.{is_done}
 use Rattle.rtgs_book.specs.Session.{is_judged}
 use Rattle.rtgs_book.specs.Step.{OwnStep, Step}
-use Rattle.rtgs_cores.specs.declared.Core.{Core}
-use Rattle.rtgs_cores.specs.Following.{AreBalanced, core_after}
+use Rattle.rtgs_book.specs.declared.cores.cores.Core.{Core}
+use Rattle.rtgs_book.specs.cores.Following.{AreBalanced, core_after}
 
 -- What a command by itself is answered, and what its change is: its rows lead from the book to the one that the command
 -- leaves with this answer, give no money to a participant that they add, and set the running balances right.

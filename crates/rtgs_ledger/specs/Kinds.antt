@@ -1,14 +1,14 @@
 -- Which answers and refusals a command can have, and which answers change nothing.
 use Rattle.std.specs.Prelude.{◌≡◌, Bool, true, false, ◌&&◌, List, [], Ok, is_some, ⊤}
-use Rattle.rtgs_book.specs.declared.Answer.{Answer}
-use Rattle.rtgs_book.specs.declared.Answer.TheVariants as answer
-use Rattle.rtgs_book.specs.declared.Command.{Command}
-use Rattle.rtgs_book.specs.declared.Command.TheVariants as command
-use Rattle.rtgs_book.specs.declared.Known.TheVariants as known
-use Rattle.rtgs_book.specs.declared.Refusal.{Refusal}
-use Rattle.rtgs_book.specs.declared.Refusal.TheVariants.{StoreFault, Failed}
-use Rattle.rtgs_book.specs.declared.RowChange.{RowChange}
-use Rattle.rtgs_book.specs.declared.WholeAnswer.{WholeAnswer}
+use Rattle.rtgs_book.specs.declared.answer.Answer.{Answer}
+use Rattle.rtgs_book.specs.declared.answer.Answer.TheVariants as answer
+use Rattle.rtgs_book.specs.declared.command.Command.{Command}
+use Rattle.rtgs_book.specs.declared.command.Command.TheVariants as command
+use Rattle.rtgs_book.specs.declared.answer.Known.TheVariants as known
+use Rattle.rtgs_book.specs.declared.refusal.Refusal.{Refusal}
+use Rattle.rtgs_book.specs.declared.refusal.Refusal.TheVariants.{StoreFault, Failed}
+use Rattle.rtgs_book.specs.declared.change.RowChange.{RowChange}
+use Rattle.rtgs_book.specs.declared.answer.WholeAnswer.{WholeAnswer}
 use Rattle.rtgs_book.specs.Outcome.{is_done}
 use Rattle.rtgs_book.specs.Step.{may_free}
 

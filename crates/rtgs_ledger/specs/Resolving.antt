@@ -16,7 +16,7 @@ use Rattle.rtgs_gridlock.specs.declared.queues.Payment.{Payment}
 use Rattle.rtgs_gridlock.specs.Choices.{AreFloored, AreInRange, payment_count}
 use Rattle.rtgs_choices.specs.Settling.{orders_taken}
 use Rattle.rtgs_book.specs.declared.account.Account.{Account}
-use Rattle.rtgs_accounts.specs.Accounts.{code_of}
+use Rattle.rtgs_records.specs.accounts.Accounts.{code_of}
 
 -- the orders are those of the book's greatest choice, account by account
 pub record AreGreatest (book : Book) (orders : List Order) : Type 0 where

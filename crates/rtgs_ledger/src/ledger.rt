@@ -3,8 +3,8 @@ ghost use Rattle.std.specs.Prelude.{◌≡◌, ◌⊎◌, [], IfOk, IfErr, true,
 ghost use Rattle.rtgs_book.specs.declared.book.Book.{Book};
 ghost use Rattle.rtgs_book.specs.Calm.{IsCalm};
 ghost use Rattle.rtgs_book.specs.Step.{may_free};
-ghost use Rattle.rtgs_cores.specs.Cores.{IsCoreOf, found_for};
-ghost use Rattle.rtgs_cores.specs.Following.{core_after};
+ghost use Rattle.rtgs_book.specs.cores.Cores.{IsCoreOf, found_for};
+ghost use Rattle.rtgs_book.specs.cores.Following.{core_after};
 ghost use Rattle.rtgs_records.specs.Held.{HasRoom};
 ghost use Rattle.rtgs_ledger.specs.Following.{FreesOrders};
 ghost use Rattle.rtgs_ledger.specs.Kept.{IsPrepared, IsPreparedByItself, IsCommandRefused, IsRefusedByItself};
@@ -24,12 +24,11 @@ mod resolution;
 mod resolver_input;
 mod withdrawal;
 
-use rtgs_accounts::Accounts;
-use rtgs_book::{Answer, Change, Command, Fault, Known, Refusal, Rows, Rule, WholeAnswer};
-use rtgs_cores::{Core, Found};
-use rtgs_queues::Orders;
-use rtgs_queues::laws::waiting_orders_can_be_loaded;
-use rtgs_records::Records;
+use rtgs_book::{
+    Answer, Change, Command, Core, Fault, Found, Known, Refusal, Rows, Rule, WholeAnswer,
+};
+use rtgs_records::queues::laws::waiting_orders_can_be_loaded;
+use rtgs_records::{Accounts, Orders, Records};
 use std::alloc::{AllocError, Global};
 use std::marker::Model;
 

@@ -3,7 +3,7 @@ use Rattle.std.proofs.Common.{◌≡◌, ◌≤◌, ◌<◌, ◌+◌, ℕ, min, 
 use Rattle.std.proofs.Common.{Some, None, Result, Ok, Err, OnOk, refl, sym, ap, ◌∙◌, append_assoc, append-nil, arith}
 use Rattle.std.proofs.lemmas.List.{drop_more, drop_all}
 use Rattle.std.proofs.lemmas.Option.{slice_get_cases}
-use Rattle.rtgs_book.specs.declared.Refusal.{Refusal}
+use Rattle.rtgs_book.specs.declared.refusal.Refusal.{Refusal}
 use Rattle.rtgs_order_files.specs.declared.batch_result.RowReply.{RowReply}
 use Rattle.rtgs_order_files.specs.declared.order_row.OrderRow.{OrderRow}
 use Rattle.rtgs_order_files.specs.Results.{reply_line, stop_line, result_lines}

@@ -4,8 +4,8 @@ use Rattle.csv.specs.Writing.{default_writer, row_text, text_written, fields_wri
 use Rattle.csv.specs.declared.writer.Writer.{Writer}
 use Rattle.rtgs_money.specs.Date.{date_text}
 use Rattle.rtgs_refusals.specs.Table.{entry_of}
-use Rattle.rtgs_book.specs.declared.Standing.TheVariants as standing
-use Rattle.rtgs_book.specs.declared.Refusal.{Refusal}
+use Rattle.rtgs_book.specs.declared.standing.Standing.TheVariants as standing
+use Rattle.rtgs_book.specs.declared.refusal.Refusal.{Refusal}
 use Rattle.rtgs_book.specs.Refusals.{refusal_kind_of}
 use Rattle.rtgs_book.specs.Standings.{standing_of, word_of}
 use Rattle.rtgs_order_files.specs.declared.batch_result.RowReply.{RowReply}

@@ -11,7 +11,7 @@ use Rattle.rtgs_book.specs.Calm.{IsCalm}
 use Rattle.rtgs_book.specs.Outcome.{Reply}
 use Rattle.rtgs_rows.specs.Content.{Content, HasNoTables}
 use Rattle.rtgs_rows.specs.Keeping.{AddsUp, IsBookOf}
-use Rattle.rtgs_stored_desk.specs.Stored.{AreTablesOf}
+use Rattle.rtgs_book_file.specs.stored_desk.Stored.{AreTablesOf}
 use Rattle.rtgs_tables.specs.Building.{IsBlank}
 use Rattle.rtgs_promises.specs.Headline.{AreExactly, AreRowsOf, EndsEarly, EndsEarlyAnew, IsForced}
 use Rattle.rtgs_promises.specs.declared.sessions.Cause.{Cause}

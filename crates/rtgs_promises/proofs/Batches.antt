@@ -3,10 +3,10 @@ use Rattle.std.proofs.Common.{◌≡◌, ◌≢◌, ◌∙◌, List, [], ◌∷�
 use Rattle.std.specs.List.{AllByRecursion}
 use Rattle.rtgs_book.specs.declared.refusal.Refusal.TheVariants.{QueueFull}
 use Rattle.rtgs_book.specs.Outcome.{Reply, own_of}
-use Rattle.rtgs_batches.specs.Batches.{reply_of}
+use Rattle.rtgs_desk.specs.batches.Batches.{reply_of}
 use Rattle.rtgs_order_files.specs.declared.batch_result.RowReply.{RowReply}
 use Rattle.rtgs_order_files.specs.declared.batch_result.RowReply.TheVariants.{Settled, Queued, Held, Repeated, Refused}
-use Rattle.rtgs_repeats.specs.Batch.{IsNotFull}
+use Rattle.rtgs_laws.specs.repeats.Batch.{IsNotFull}
 
 full_row : (row : RowReply) → reply_of row ≡ Err QueueFull → row ≡ Refused QueueFull
 full_row (Settled number mark) e = absurd (cc)

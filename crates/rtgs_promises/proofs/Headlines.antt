@@ -9,7 +9,7 @@ use Rattle.rtgs_book.specs.Outcome.{Reply}
 use Rattle.rtgs_book.specs.Run.{Run}
 use Rattle.rtgs_book.specs.Session.{Session, IsLife}
 use Rattle.rtgs_book.specs.Soundness.{IsSound}
-use Rattle.rtgs_repeats.specs.Lives.{AreLived}
+use Rattle.rtgs_laws.specs.repeats.Lives.{AreLived}
 use Rattle.rtgs_promises.specs.Headline.{EachResolves, IsHeadline}
 
 -- the laws that it rests on, as the calls of laws promise them

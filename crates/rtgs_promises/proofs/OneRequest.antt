@@ -6,15 +6,15 @@ use Rattle.rtgs_book.specs.declared.book.Book.{Book}
 use Rattle.rtgs_book.specs.declared.command.Command.{Command}
 use Rattle.rtgs_book.specs.Outcome.{Reply}
 use Rattle.rtgs_book.specs.Session.{IsSession}
-use Rattle.rtgs_batches.specs.Batches.{orders_of}
+use Rattle.rtgs_desk.specs.batches.Batches.{orders_of}
 use Rattle.rtgs_order_files.specs.declared.order_row.OrderRow.{OrderRow}
-use Rattle.rtgs_http_banks.specs.declared.served.Served.{Served}
-use Rattle.rtgs_http_banks.specs.declared.served.Served.TheVariants.{Answered, ReadFault, WriteFault}
-use Rattle.rtgs_http_banks.specs.Handling.{given}
-use Rattle.rtgs_http_banks.specs.Exchange.{IsAllowed}
-use Rattle.rtgs_http_banks.specs.Serving.{Sends, Serves}
-use Rattle.rtgs_http_input.specs.Input.{OfInput}
-use Rattle.rtgs_http_replies.specs.Messages.{Message}
+use Rattle.rtgs_http_server.specs.declared.banks.served.Served.{Served}
+use Rattle.rtgs_http_server.specs.declared.banks.served.Served.TheVariants.{Answered, ReadFault, WriteFault}
+use Rattle.rtgs_http_server.specs.banks.Handling.{given}
+use Rattle.rtgs_http_server.specs.banks.Exchange.{IsAllowed}
+use Rattle.rtgs_http_server.specs.banks.Serving.{Sends, Serves}
+use Rattle.rtgs_http_server.specs.input.Input.{OfInput}
+use Rattle.rtgs_http_bodies.specs.replies.Messages.{Message}
 use Rattle.rtgs_http_requests.specs.Access.{IsCommandOf}
 use Rattle.rtgs_http_requests.specs.declared.asked.Asked.{Asked}
 use Rattle.rtgs_http_requests.specs.declared.asked.Asked.TheVariants.{Submit, Batch, Read}

@@ -18,7 +18,7 @@ use Rattle.rtgs_book.specs.Session.{Session, IsLife}
 use Rattle.rtgs_book.specs.Settle.{settle}
 use Rattle.rtgs_book.specs.Soundness.{IsSound}
 use Rattle.rtgs_book.specs.Step.{Step, is_followed}
-use Rattle.rtgs_repeats.specs.Lives.{AreLived}
+use Rattle.rtgs_laws.specs.repeats.Lives.{AreLived}
 use Rattle.rtgs_rows.specs.Content.{Content, HasNoTables, Holding, Holds}
 use Rattle.rtgs_rows.specs.Keeping.{AddsUp, AreOf, IsBookOf}
 use Rattle.rtgs_promises.specs.declared.sessions.Cause.{Cause}

@@ -7,14 +7,14 @@ use Rattle.rtgs_book.specs.Outcome.{Reply}
 use Rattle.rtgs_keeper.specs.declared.keeper.Keeper.{Ghosts}
 use Rattle.rtgs_ledger.specs.Keys.{code_under}
 use Rattle.rtgs_desk.specs.Seen.{Seen}
-use Rattle.rtgs_http_replies.specs.Messages.{Message}
+use Rattle.rtgs_http_bodies.specs.replies.Messages.{Message}
 use Rattle.rtgs_http_requests.specs.Access.{CarriesKey, IsCommandOf}
-use Rattle.rtgs_http_banks.specs.Handling.{given}
-use Rattle.rtgs_http_banks.specs.Exchange.{Handles}
-use Rattle.rtgs_http_banks.specs.Serving.{Serves}
-use Rattle.rtgs_http_banks.specs.declared.served.Served.{Served}
-use Rattle.rtgs_http_banks.specs.declared.served.Served.TheVariants.{ReadFault}
-use Rattle.rtgs_http_input.specs.declared.ReaderFailed.{ReaderFailed}
+use Rattle.rtgs_http_server.specs.banks.Handling.{given}
+use Rattle.rtgs_http_server.specs.banks.Exchange.{Handles}
+use Rattle.rtgs_http_server.specs.banks.Serving.{Serves}
+use Rattle.rtgs_http_server.specs.declared.banks.served.Served.{Served}
+use Rattle.rtgs_http_server.specs.declared.banks.served.Served.TheVariants.{ReadFault}
+use Rattle.rtgs_http_server.specs.declared.input.reader_failed.ReaderFailed.{ReaderFailed}
 use Rattle.rtgs_promises.specs.Headline.{IsHeadline}
 
 -- The commands are none; or the input carries the operator's key; or it carries the key of a participant, and each of

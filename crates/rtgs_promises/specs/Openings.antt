@@ -5,7 +5,7 @@ use Rattle.rtgs_book.specs.declared.fault.Fault.TheVariants.{Inconsistent}
 use Rattle.rtgs_book.specs.declared.rule.Rule.TheVariants.{Calm}
 use Rattle.rtgs_book.specs.Refusals.{fault_kind_of}
 use Rattle.rtgs_refusals.specs.Table.{entry_of}
-use Rattle.rtgs_stored_desk.specs.Stored.{IsMemoryOrStore}
+use Rattle.rtgs_book_file.specs.stored_desk.Stored.{IsMemoryOrStore}
 
 abbrev pub fault_number : Fault → ℕ
 fault_number fault = (entry_of (fault_kind_of fault)).number

@@ -7,7 +7,7 @@ use Rattle.sqlite_trees.specs.declared.store.Store.{Ghosts}
 use Rattle.rtgs_book.specs.declared.book.Book.{Book}
 use Rattle.rtgs_book.specs.declared.fault.Fault.{Fault}
 use Rattle.rtgs_book.specs.Calm.{IsCalm}
-use Rattle.rtgs_stored_desk.specs.Stored.{AreTablesOf, IsMemoryOrStore}
+use Rattle.rtgs_book_file.specs.stored_desk.Stored.{AreTablesOf, IsMemoryOrStore}
 use Rattle.rtgs_promises.specs.Headline.{AreExactly}
 
 -- The disk gave back what was written to the first, if it did to the second, and a crash of the second leaves nothing

@@ -19,7 +19,7 @@ ghost use Rattle.rtgs_book.specs.Run.{Run, is_accepted, once};
 ghost use Rattle.rtgs_book.specs.Session.{Session, IsLife, MayFind, open_command};
 ghost use Rattle.rtgs_book.specs.Soundness.{IsSound};
 ghost use Rattle.rtgs_book.specs.Step.{Step, is_followed};
-ghost use Rattle.rtgs_book.specs.declared.Book.{Book};
+ghost use Rattle.rtgs_book.specs.declared.book.Book.{Book};
 ghost use Rattle.rtgs_book.specs.declared.answer.Answer.TheVariants.{Closed};
 ghost use Rattle.rtgs_book.specs.declared.command.Command.{Command};
 ghost use Rattle.rtgs_book.specs.declared.command.Command.TheVariants.{CloseDay};
@@ -28,11 +28,11 @@ ghost use Rattle.rtgs_choices.specs.ByIndex.{positions_of, queues_of, by_code};
 ghost use Rattle.rtgs_gridlock.specs.Choices.{AreResolvable, payment_count};
 ghost use Rattle.rtgs_gridlock.specs.Workspaces.{HasRoomFor, lengths_of, steps_of};
 ghost use Rattle.rtgs_promises.specs.Headline.{Resolves, EachResolves};
-ghost use Rattle.rtgs_repeats.specs.Batch.{IsOrderOf, MayComeAgain};
-ghost use Rattle.rtgs_repeats.specs.Kept.{AreKept};
-ghost use Rattle.rtgs_repeats.specs.Lasting.{IsKnown, posted_by};
-ghost use Rattle.rtgs_repeats.specs.Once.{once_replies};
-ghost use Rattle.rtgs_repeats.specs.Repeats.{acts_once};
+ghost use Rattle.rtgs_laws.specs.repeats.Batch.{IsOrderOf, MayComeAgain};
+ghost use Rattle.rtgs_laws.specs.repeats.Kept.{AreKept};
+ghost use Rattle.rtgs_laws.specs.repeats.Lasting.{IsKnown, posted_by};
+ghost use Rattle.rtgs_laws.specs.repeats.Once.{once_replies};
+ghost use Rattle.rtgs_laws.specs.repeats.Repeats.{acts_once};
 
 use rtgs_book::laws::{
     chosen_are_beginnings, greatest_exists, greatest_is_unique, nothing_settles_before_it_is_due,
@@ -44,7 +44,7 @@ use rtgs_laws::laws::{
     followed_books_are_calm, run_keeps_calm, run_keeps_soundness, run_keeps_what_is_final,
     step_exists, step_is_determined, step_keeps_calm, step_keeps_soundness,
 };
-use rtgs_repeats::laws::{
+use rtgs_laws::repeats::laws::{
     acted_is_repeated, closing_had_no_gridlock, life_is_a_run, once_ends_alike, records_are_kept,
     runs_last, stopped_batch_ends_alike,
 };
@@ -109,8 +109,8 @@ pub fn an_automatic_day_leaves_nothing_to_settle()
 
 /// **Promise 7. Money is neither made nor lost.** All balances together are what was posted, and accepted postings
 /// alone move their sum.
-// To judge it, read these 14 files, 143 definitions: rtgs_book Soundness, Run, Laws; the ten of a command; rtgs_repeats
-// Lasting.
+// To judge it, read these 14 files, 143 definitions: rtgs_book Soundness, Run, Laws; the ten of a command; rtgs_laws
+// repeats.Lasting.
 pub fn money_is_what_was_posted()
     ensures posted { (book : Book) → IsSound book → total book ≡ issued book }
     ensures moved { (start last : Book) (commands : List Command) (replies : List Reply) → IsSound start
@@ -123,7 +123,7 @@ pub fn money_is_what_was_posted()
 /// **Promise 8. What is final stays.** A mark and a settled order stand unchanged in every later book. So do a
 /// participant's name and key, a posting, and of each order its number, receiver, amount and due date.
 // To judge it, read these 15 files, 143 definitions: the ten of a command; rtgs_book Soundness, Run, Laws, Procedure;
-// rtgs_repeats Kept.
+// rtgs_laws repeats.Kept.
 pub fn what_is_final_stays()
     ensures settled { (old new : Book) (commands : List Command) (replies : List Reply) → IsSound old
         → Run old commands replies new → KeepsWhatIsFinal old new }
@@ -149,8 +149,8 @@ pub fn nothing_settles_early()
 /// **Promise 10. What is sent twice acts once.** An addition, posting, order or withdrawal that was accepted is
 /// answered as a repeat whenever it comes again, with the number that it was answered, and changes nothing. Of each
 /// order and posting one is enough: the list without the others ends in the same book, with the same replies.
-// To judge it, read these 15 files, 152 definitions: the ten of a command; rtgs_book Soundness, Run; rtgs_repeats
-// Repeats, Lasting, Once.
+// To judge it, read these 15 files, 152 definitions: the ten of a command; rtgs_book Soundness, Run; rtgs_laws
+// repeats.Repeats, repeats.Lasting, repeats.Once.
 pub fn what_is_sent_twice_acts_once()
     ensures known { (old new : Book) (command : Command) (reply : Reply) → IsSound old → acts_once command ≡ true
         → is_accepted reply ≡ true → Step old command reply new → IsKnown new command reply }
@@ -165,8 +165,8 @@ pub fn what_is_sent_twice_acts_once()
 /// **Promise 11. A batch can be sent again.** A batch of orders of one sender that stopped anywhere, also by a crash,
 /// and is sent again from its first, ends as if it had been sent once. The order at which it stopped may have acted or
 /// not. On an automatic day no order before the stop may have met a full queue: it could be taken the second time.
-// To judge it, read these 14 files, 150 definitions: rtgs_book Run, Soundness, Session; the ten of a command;
-// rtgs_repeats Batch.
+// To judge it, read these 14 files, 150 definitions: rtgs_book Run, Soundness, Session; the ten of a command; rtgs_laws
+// repeats.Batch.
 pub fn a_batch_sent_again_ends_as_if_sent_once()
     ensures { (start mid found last end : Book) (sender : List ℕ) (first rest : List Command)
         (said again once : List Reply) → IsSound start → AllByRecursion (IsOrderOf sender) (first ++ rest)

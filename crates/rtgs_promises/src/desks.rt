@@ -8,7 +8,7 @@ ghost use Rattle.std.specs.List.{AllByRecursion};
 ghost use Rattle.sqlite.specs.Held.{state};
 ghost use Rattle.sqlite.specs.State.{HasCleanDisk};
 ghost use Rattle.sqlite.specs.Tree.{Trees};
-ghost use Rattle.rtgs_batches.specs.Batches.{orders_of};
+ghost use Rattle.rtgs_desk.specs.batches.Batches.{orders_of};
 ghost use Rattle.rtgs_book.specs.Books.{is_automatic};
 ghost use Rattle.rtgs_book.specs.Calm.{IsCalm};
 ghost use Rattle.rtgs_book.specs.Outcome.{Reply};
@@ -16,7 +16,7 @@ ghost use Rattle.rtgs_book.specs.Run.{Run, once};
 ghost use Rattle.rtgs_book.specs.Session.{MayFind, answered, answers, open_command};
 ghost use Rattle.rtgs_book.specs.Soundness.{IsSound};
 ghost use Rattle.rtgs_book.specs.Step.{Step};
-ghost use Rattle.rtgs_book.specs.declared.Book.{Book};
+ghost use Rattle.rtgs_book.specs.declared.book.Book.{Book};
 ghost use Rattle.rtgs_desk.specs.Holding.{Holds, HasInMemory};
 ghost use Rattle.rtgs_desk.specs.Replies.{FailsOnce};
 ghost use Rattle.rtgs_order_files.specs.declared.batch_result.RowReply.TheVariants.{Refused};
@@ -25,18 +25,18 @@ ghost use Rattle.rtgs_promises.specs.Openings.{HasOpeningNumber, IsOfABook};
 ghost use Rattle.rtgs_rows.specs.Content.{Content, Holds as HoldsRows};
 ghost use Rattle.rtgs_rows.specs.Keeping.{AddsUp, IsWhole};
 ghost use Rattle.rtgs_rows.specs.declared.numbers.TheConstants.{VERSION};
-ghost use Rattle.rtgs_stored_desk.specs.Stored.{AreTablesOf, IsMemoryOrStore, IsNotCalmAs};
+ghost use Rattle.rtgs_book_file.specs.stored_desk.Stored.{AreTablesOf, IsMemoryOrStore, IsNotCalmAs};
 ghost use Rattle.rtgs_tables.specs.Loading.{IsDisplayed, ExplainsDatabase};
 
 use crate::batching::{resumed, send};
 use crate::sessions::{Cause, Stop};
 use rtgs_book::{Command, Fault, Refusal, WholeAnswer};
+use rtgs_book_file::stored_desk::open;
 use rtgs_desk::Desk;
 use rtgs_keeper::Keeper;
 use rtgs_money::Code;
 use rtgs_order_files::{BatchResult, OrderRow};
 use rtgs_rows::laws::{stored_balances_are_the_postings, what_a_stop_leaves_adds_up};
-use rtgs_stored_desk::open;
 use rtgs_tables::SqlKeeper;
 use sqlite::{Alter, Connection};
 use sqlite_trees::store::Reopen;
@@ -47,7 +47,7 @@ use std::alloc::{AllocError, Global};
 /// Whatever a crash leaves then is that book, or that book after the one command that met the fault. Without memory for
 /// the replies nothing is done. This holds over any keeper with the trait's laws.
 // To judge it, read these 20 files, 157 definitions: rtgs_desk Holding, Replies, Seen; rtgs_book Run, Session, Calm,
-// Soundness, Ranges; the ten of a command; rtgs_cores Cores; rtgs_money Amounts.
+// cores.Cores, Soundness, Ranges; the ten of a command; rtgs_money Amounts.
 pub fn answers_are_the_definitions_run<K: Keeper>(
     desk: &mut Desk<K>,
     commands: &[Command],
@@ -68,8 +68,8 @@ pub fn answers_are_the_definitions_run<K: Keeper>(
 /// **Promise 4. The tables are the book's rows.** Whatever a crash leaves of a desk at rest are the tables of the book
 /// that it holds, and nothing else.
 // To judge it, read these 23 files, 150 definitions: rtgs_promises Headline; rtgs_desk Holding, Seen; rtgs_book Calm,
-// Books, Choice, Balance, Soundness, Ranges, Queue, Lookup, Settle; rtgs_rows Content, Keeping, Fitting, Tables, Dues,
-// Rows; rtgs_cores Cores; rtgs_money Amounts, Date, Forms, Digits.
+// cores.Cores, Books, Choice, Balance, Soundness, Ranges, Queue, Lookup, Settle; rtgs_rows Content, Keeping, Fitting,
+// Tables, Dues, Rows; rtgs_money Amounts, Date, Forms, Digits.
 pub fn tables_are_exactly_the_book<S: Alter + Drop>(desk: &Desk<SqlKeeper<S>>)
     ensures { (book : Book) → Holds ⟦<SqlKeeper<S> as Keeper>⟧ desk.now book
         → LeavesExactly book (state S.Store desk.now.keeper.conn) }
@@ -81,7 +81,7 @@ pub fn tables_are_exactly_the_book<S: Alter + Drop>(desk: &Desk<SqlKeeper<S>>)
 /// **Promise 6, as a call: a command and what follows it are one.** Wherever the store fails, a crash leaves the book
 /// before the command, or the one after it and after all that it let settle, and never one between them.
 // To judge it, read these 17 files, 148 definitions: rtgs_desk Holding, Seen; the ten of a command; rtgs_book Calm,
-// Soundness, Ranges; rtgs_cores Cores; rtgs_money Amounts.
+// cores.Cores, Soundness, Ranges; rtgs_money Amounts.
 pub fn a_command_and_what_follows_are_one<K: Keeper>(
     desk: &mut Desk<K>,
     command: Command,
@@ -107,8 +107,8 @@ pub fn stored_money_is_what_was_posted<S: Alter>(conn: &Connection<S>)
 
 /// **Promise 11, as a call.** A batch is sent, the desk stops, is opened again, and the whole batch is sent once more.
 /// If this sending comes to its end, the desk holds the book that one sending would have made.
-// To judge it, read these 19 files, 157 definitions: rtgs_book Run, Calm, Soundness, Ranges; the ten of a command;
-// rtgs_desk Holding, Seen; rtgs_batches Batches; rtgs_cores Cores; rtgs_money Amounts.
+// To judge it, read these 19 files, 157 definitions: rtgs_book Run, Calm, cores.Cores, Soundness, Ranges; the ten of a
+// command; rtgs_desk Holding, batches.Batches, Seen; rtgs_money Amounts.
 pub fn send_a_batch_twice<S: Alter + Reopen + Drop>(
     alloc: Global,
     desk: Desk<SqlKeeper<S>>,
@@ -136,10 +136,10 @@ pub fn send_a_batch_twice<S: Alter + Reopen + Drop>(
 /// what the tables show; tables that hold a calm book are refused with 90 or 91 alone, and those that hold another also
 /// as not calm. Whatever it answers, the tables stay as they were found.
 // To judge it, read these 34 files, 225 definitions: rtgs_promises Openings; rtgs_desk Holding, Seen; rtgs_book
-// Soundness, Calm, Books, Choice, Refusals, Ranges, Lookup, Queue, Settle, Balance, Judgement; rtgs_sql_loading
-// Displaying, Accounts, Joining; rtgs_stored_desk Stored; rtgs_cores Cores; rtgs_rows Keeping, Content, Fitting, Dues,
-// TableRecords, Tables, Rows; rtgs_sql_queries Displaying; rtgs_sql_columns Tables, Numbers; rtgs_refusals Table;
-// rtgs_money Date, Amounts, Forms, Digits.
+// Soundness, Calm, cores.Cores, Books, Choice, Refusals, Ranges, Lookup, Queue, Settle, Balance, Judgement;
+// rtgs_sql_loading Displaying, Accounts, Joining; rtgs_book_file stored_desk.Stored; rtgs_rows Keeping, Content,
+// Fitting, Dues, TableRecords, Tables, Rows; rtgs_sql_queries Displaying; rtgs_sql_columns Tables, Numbers;
+// rtgs_refusals Table; rtgs_money Date, Amounts, Forms, Digits.
 pub fn opens_a_sound_book_or_names_a_fault<S: Alter + Drop>(
     alloc: Global,
     conn: Connection<S>,

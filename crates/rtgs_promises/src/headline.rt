@@ -13,10 +13,10 @@ ghost use Rattle.sqlite.specs.Steps.{IsEmpty};
 ghost use Rattle.sqlite_trees.specs.View.{IsClean};
 ghost use Rattle.rtgs_book.specs.Books.{new_book};
 ghost use Rattle.rtgs_book.specs.Calm.{IsCalm};
-ghost use Rattle.rtgs_book.specs.declared.Book.{Book};
+ghost use Rattle.rtgs_book.specs.declared.book.Book.{Book};
 ghost use Rattle.rtgs_desk.specs.Holding.{Holds};
 ghost use Rattle.rtgs_promises.specs.Headline.{IsHeadline, EndsEarly, LeavesExactly, EndsEarlyAnew, LeavesRows};
-ghost use Rattle.rtgs_stored_desk.specs.Stored.{AreTablesOf};
+ghost use Rattle.rtgs_book_file.specs.stored_desk.Stored.{AreTablesOf};
 
 use crate::books::{each_resolution_settles_the_greatest_choice, nothing_settles_early};
 use crate::desks::tables_are_exactly_the_book;
@@ -26,10 +26,10 @@ use crate::memory::made_in_memory;
 use crate::sessions::{Cause, Unfinished, Visit};
 use crate::stopping::found_again;
 use rtgs_book::{Refusal, WholeAnswer};
+use rtgs_book_file::stored_desk::run;
 use rtgs_desk::Desk;
 use rtgs_keeper::Keeper;
-use rtgs_repeats::laws::life_is_a_run;
-use rtgs_stored_desk::run;
+use rtgs_laws::repeats::laws::life_is_a_run;
 use rtgs_tables::SqlKeeper;
 use sqlite::{Alter, Connection, MemStore};
 use sqlite_trees::store::Reopen;
@@ -54,8 +54,8 @@ use std::alloc::Global;
 /// the disk gives back what was written to it (`HasCleanDisk`, `IsClean`); and the database was just opened and has
 /// nothing in it (`IsEmpty`).
 // To judge it, read these 24 files, 216 definitions: rtgs_promises Headline; the ten of a command; rtgs_book Session,
-// Run, Calm, Laws, Soundness, Procedure; rtgs_repeats Lives; rtgs_rows Content, Keeping, Tables, Dues, Rows; rtgs_money
-// Digits.
+// Run, Calm, Laws, Soundness, Procedure; rtgs_laws repeats.Lives; rtgs_rows Content, Keeping, Tables, Dues, Rows;
+// rtgs_money Digits.
 pub fn make_and_live<S: Alter + Reopen + Drop>(
     alloc: Global,
     conn: Connection<S>,
@@ -86,9 +86,10 @@ pub fn make_and_live<S: Alter + Reopen + Drop>(
 ///
 /// The function opens a desk, gives it the commands of a session, ends that in order, or by a crash wherever its store
 /// then is (a store may fail from any call on, and so inside any write), opens it again over what this left, and so on.
-// To judge it, read these 32 files, 247 definitions: rtgs_promises Headline; rtgs_stored_desk Stored; rtgs_desk
-// Holding, Seen; rtgs_book Calm, Session, Run, Laws, Soundness, Procedure, Ranges; the ten of a command; rtgs_repeats
-// Lives; rtgs_rows Content, Keeping, Fitting, Tables, Dues, Rows; rtgs_cores Cores; rtgs_money Forms, Amounts, Digits.
+// To judge it, read these 32 files, 247 definitions: rtgs_promises Headline; rtgs_book_file stored_desk.Stored;
+// rtgs_desk Holding, Seen; rtgs_book Calm, Session, Run, Laws, Soundness, Procedure, cores.Cores, Ranges; the ten of a
+// command; rtgs_laws repeats.Lives; rtgs_rows Content, Keeping, Fitting, Tables, Dues, Rows; rtgs_money Forms, Amounts,
+// Digits.
 pub fn live<S: Alter + Reopen + Drop>(
     alloc: Global,
     conn: Connection<S>,
@@ -138,7 +139,7 @@ pub fn live<S: Alter + Reopen + Drop>(
 
 /// **Promise 1, in memory.** The headline over a database in memory, from the empty one: no premise is left.
 // To judge it, read these 23 files, 169 definitions: rtgs_promises Headline; rtgs_desk Holding, Seen; the ten of a
-// command; rtgs_book Session, Run, Calm, Laws, Soundness, Procedure, Ranges; rtgs_repeats Lives; rtgs_cores Cores;
+// command; rtgs_book Session, Run, Calm, Laws, Soundness, Procedure, cores.Cores, Ranges; rtgs_laws repeats.Lives;
 // rtgs_money Amounts.
 pub fn live_in_memory(
     alloc: Global,

@@ -3,13 +3,13 @@ ghost use Rattle.std.specs.Prelude.{◌≡◌, ◌≤◌, false, List, [], lengt
 ghost use Rattle.sqlite.specs.Held.{state};
 ghost use Rattle.sqlite.specs.State.{HasCleanDisk};
 ghost use Rattle.sqlite_trees.specs.View.{IsClean};
-ghost use Rattle.rtgs_book.specs.declared.Book.{Book};
-ghost use Rattle.rtgs_book.specs.declared.Command.{Command};
+ghost use Rattle.rtgs_book.specs.declared.book.Book.{Book};
+ghost use Rattle.rtgs_book.specs.declared.command.Command.{Command};
 ghost use Rattle.rtgs_book.specs.Calm.{IsCalm};
 ghost use Rattle.rtgs_desk.specs.Holding.{Holds};
 ghost use Rattle.rtgs_promises.specs.Headline.{EndsEarly};
 ghost use Rattle.rtgs_promises.specs.Stops.{LeavesTables};
-ghost use Rattle.rtgs_stored_desk.specs.Stored.{AreTablesOf};
+ghost use Rattle.rtgs_book_file.specs.stored_desk.Stored.{AreTablesOf};
 
 use crate::books::{each_resolution_settles_the_greatest_choice, nothing_settles_early};
 use crate::desks::tables_are_exactly_the_book;
@@ -18,7 +18,7 @@ use crate::stopping::{opened, store_of};
 use rtgs_book::{Refusal, WholeAnswer};
 use rtgs_desk::Desk;
 use rtgs_keeper::Keeper;
-use rtgs_repeats::laws::life_is_a_run;
+use rtgs_laws::repeats::laws::life_is_a_run;
 use rtgs_rows::laws::stored_balances_are_the_postings;
 use rtgs_tables::SqlKeeper;
 use sqlite::{Alter, Connection};

@@ -4,16 +4,16 @@ ghost use Rattle.sqlite.specs.Held.{state};
 ghost use Rattle.sqlite.specs.State.{HasCleanDisk};
 ghost use Rattle.sqlite.specs.Steps.{IsEmpty};
 ghost use Rattle.sqlite_trees.specs.View.{IsClean};
-ghost use Rattle.rtgs_book.specs.declared.Command.{Command};
+ghost use Rattle.rtgs_book.specs.declared.command.Command.{Command};
 ghost use Rattle.rtgs_book.specs.Books.{new_book};
 ghost use Rattle.rtgs_promises.specs.Headline.{EndsEarlyAnew};
-ghost use Rattle.rtgs_stored_desk.specs.Stored.{AreTablesOf};
+ghost use Rattle.rtgs_book_file.specs.stored_desk.Stored.{AreTablesOf};
 
 use crate::books::{each_resolution_settles_the_greatest_choice, nothing_settles_early};
 use crate::sessions::{Cause, Unfinished};
-use rtgs_repeats::laws::life_is_a_run;
+use rtgs_book_file::stored_desk::make;
+use rtgs_laws::repeats::laws::life_is_a_run;
 use rtgs_rows::laws::stored_balances_are_the_postings;
-use rtgs_stored_desk::make;
 use sqlite::{Alter, Connection};
 use std::alloc::Global;
 

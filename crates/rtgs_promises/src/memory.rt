@@ -3,7 +3,7 @@ ghost use Rattle.std.specs.Prelude.{◌≡◌, false, IfOk, IsTrue};
 ghost use Rattle.sqlite.specs.Held.{state};
 ghost use Rattle.sqlite.specs.Steps.{over_memory, IsEmpty};
 ghost use Rattle.rtgs_book.specs.Books.{new_book};
-ghost use Rattle.rtgs_stored_desk.specs.Stored.{AreTablesOf};
+ghost use Rattle.rtgs_book_file.specs.stored_desk.Stored.{AreTablesOf};
 
 use crate::making::tables_made;
 use crate::sessions::{Cause, Unfinished};

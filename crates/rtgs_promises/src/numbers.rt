@@ -3,10 +3,11 @@
 ghost use Rattle.std.specs.Prelude.{◌≡◌, ◌≢◌, ◌≤◌, ◌↔◌, ℕ, ℤ, pos, unsigned_abs, true, false};
 ghost use Rattle.rtgs_book.specs.declared.limits.TheConstants.{LARGEST_BALANCE, LARGEST_NUMBER, LARGEST_TOTAL};
 ghost use Rattle.rtgs_book.specs.declared.limits.TheConstants.{LONGEST_QUEUE, MOST_PARTICIPANTS, MOST_QUEUED};
-ghost use Rattle.rtgs_book.specs.declared.OrderState.TheVariants.{Held, Queued, Rejected, Settled, Withdrawn};
-ghost use Rattle.rtgs_book.specs.declared.Phase.TheVariants.{Closed, CutOff, Open};
-ghost use Rattle.rtgs_http_feeds.specs.declared.limits.TheConstants.{LONGEST_BODY, LONGEST_HEAD};
-ghost use Rattle.rtgs_http_heads.specs.declared.limits.TheConstants.{MOST_DIGITS, MOST_FIELDS};
+ghost use Rattle.rtgs_book.specs.declared.order_state.OrderState.TheVariants.{Held, Queued, Rejected, Settled};
+ghost use Rattle.rtgs_book.specs.declared.order_state.OrderState.TheVariants.{Withdrawn};
+ghost use Rattle.rtgs_book.specs.declared.phase.Phase.TheVariants.{Closed, CutOff, Open};
+ghost use Rattle.rtgs_http_requests.specs.declared.feeds.limits.TheConstants.{LONGEST_BODY, LONGEST_HEAD};
+ghost use Rattle.rtgs_http_requests.specs.declared.heads.limits.TheConstants.{MOST_DIGITS, MOST_FIELDS};
 ghost use Rattle.rtgs_money.specs.Amounts.{IsAmount, IsCredit, IsPostingAmount};
 ghost use Rattle.rtgs_money.specs.declared.code.TheConstants.Code as code;
 ghost use Rattle.rtgs_money.specs.declared.date.TheConstants.BusinessDate as date;

@@ -7,15 +7,15 @@ ghost use Rattle.sqlite.specs.Held.{state};
 ghost use Rattle.sqlite.specs.State.{HasCleanDisk};
 ghost use Rattle.sqlite.specs.Tree.{Trees};
 ghost use Rattle.sqlite_trees.specs.View.{IsClean};
-ghost use Rattle.rtgs_book.specs.declared.Book.{Book};
+ghost use Rattle.rtgs_book.specs.declared.book.Book.{Book};
 ghost use Rattle.rtgs_book.specs.declared.reading.Reading.{Reading};
 ghost use Rattle.rtgs_desk.specs.Holding.{Holds};
 ghost use Rattle.rtgs_desk.specs.Seen.{Seen};
-ghost use Rattle.rtgs_http_banks.specs.Handling.{given};
-ghost use Rattle.rtgs_http_banks.specs.Exchange.{Handles, Exchanges, IsAskedByBearer};
-ghost use Rattle.rtgs_http_laws.specs.Alike.{EndAlike};
-ghost use Rattle.rtgs_http_laws.specs.Own.{AgreeFor, IsSentBy};
-ghost use Rattle.rtgs_http_replies.specs.Messages.{Message};
+ghost use Rattle.rtgs_http_server.specs.banks.Handling.{given};
+ghost use Rattle.rtgs_http_server.specs.banks.Exchange.{Handles, Exchanges, IsAskedByBearer};
+ghost use Rattle.rtgs_http_server.specs.reply_laws.Alike.{EndAlike};
+ghost use Rattle.rtgs_http_server.specs.reply_laws.Own.{AgreeFor, IsSentBy};
+ghost use Rattle.rtgs_http_bodies.specs.replies.Messages.{Message};
 ghost use Rattle.rtgs_http_requests.specs.Exchange.{AsksFor};
 ghost use Rattle.rtgs_http_requests.specs.Same.{AreTheSame};
 ghost use Rattle.rtgs_http_requests.specs.declared.asked.Asked.{Asked};
@@ -29,9 +29,11 @@ use crate::serving::serve;
 use crate::sessions::{Cause, Stop};
 use crate::stopping::found_again;
 use rtgs_desk::Desk;
-use rtgs_http_banks::Served;
-use rtgs_http_laws::laws::{participants_are_shown_their_own_rows, replies_are_determined};
 use rtgs_http_requests::laws::answers_are_determined;
+use rtgs_http_server::Served;
+use rtgs_http_server::reply_laws::laws::{
+    participants_are_shown_their_own_rows, replies_are_determined,
+};
 use rtgs_keeper::Keeper;
 use rtgs_money::KeyDigest;
 use rtgs_tables::SqlKeeper;
@@ -44,15 +46,16 @@ use std::io::{Read, Write};
 /// the book and the request's bytes, whole or a beginning of it; the commands that were given are those that these
 /// bytes ask for, and the bearer of the key may give them; and the stop that comes then leaves what promise 1 says.
 /// Where the reader fails, nothing was done. So it is with whatever a crash leaves where no desk opens again.
-// To judge it, read these 85 files, 536 definitions: rtgs_promises Headline, Keys; rtgs_desk Holding, Seen, Replies,
-// Readings; rtgs_http_banks Serving, Exchange, Handling, ReplyMessages; rtgs_rows Content, Keeping, Fitting, Tables,
-// Dues, Rows; rtgs_book Calm, Soundness, Session, Run, Laws, Ranges, Procedure, Refusals, Standings; rtgs_http_replies
-// Messages, Kinds, Texts, Bodies; rtgs_output Sent; the ten of a command; rtgs_cores Cores; rtgs_http_input Input;
-// rtgs_http_requests Exchange, Access, Callers, Meaning, Steps, Bodies, Faults, Contents; rtgs_ledger Keys, Kept;
-// rtgs_batches Batches, Sent; rtgs_repeats Lives, Lasting, Batch, Repeats, Once; rtgs_http_heads Targets, Heads,
-// Fields, Tables; rtgs_desk_texts Written, Accounts; rtgs_http_feeds Region; rtgs_money Forms, Amounts, Lexical,
-// Digits, Units; rtgs_http_bodies Refusals, Statuses, Answers, Readings; rtgs_order_files Results, BatchFaults,
-// OrderFile; rtgs_refusals Table; rtgs_statements Texts, Records, Lines, Sums, Tallies, Columns.
+// To judge it, read these 85 files, 536 definitions: rtgs_promises Headline, Keys; rtgs_desk Holding, Seen,
+// batches.Batches, batches.Sent, Replies, Readings; rtgs_http_server banks.Serving, banks.Exchange, banks.Handling,
+// input.Input, banks.ReplyMessages; rtgs_rows Content, Keeping, Fitting, Tables, Dues, Rows; rtgs_book Calm, Soundness,
+// cores.Cores, Session, Run, Laws, Ranges, Procedure, Refusals, Standings; rtgs_http_bodies replies.Messages,
+// desks.Written, replies.Kinds, Refusals, Statuses, Answers, replies.Texts, replies.Bodies, Readings, desks.Accounts;
+// rtgs_output Sent; the ten of a command; rtgs_http_requests Exchange, Access, Callers, Meaning, Steps, Bodies,
+// heads.Targets, feeds.Region, heads.Heads, heads.Fields, Faults, heads.Tables, Contents; rtgs_ledger Keys, Kept;
+// rtgs_laws repeats.Lives, repeats.Lasting, repeats.Batch, repeats.Repeats, repeats.Once; rtgs_money Forms, Amounts,
+// Lexical, Digits, Units; rtgs_order_files Results, BatchFaults, OrderFile; rtgs_refusals Table; rtgs_statements Texts,
+// Records, Lines, Sums, Tallies, Columns.
 pub fn serve_and_stop<R: Read, W: Write, S: Alter + Reopen + Drop>(
     alloc: Global,
     desk: Desk<SqlKeeper<S>>,
@@ -86,14 +89,15 @@ pub fn serve_and_stop<R: Read, W: Write, S: Alter + Reopen + Drop>(
 
 /// **Promise 12. A request has one meaning.** What it asks for and its reply are a function of the book and the
 /// request's bytes. Set aside is lack of memory, and for the reply a fault of the store: the status is then 503.
-// To judge it, read these 75 files, 460 definitions: rtgs_desk Seen, Holding, Replies, Readings; rtgs_http_replies
-// Messages, Kinds, Texts, Bodies; rtgs_http_banks Exchange, Handling, ReplyMessages; rtgs_http_requests Same, Exchange,
-// Meaning, Callers, Steps, Bodies, Access, Faults, Contents; rtgs_http_laws Alike; rtgs_ledger Keys, Kept;
-// rtgs_http_heads Targets, Heads, Fields, Tables; rtgs_desk_texts Written, Accounts; the ten of a command; rtgs_book
-// Calm, Session, Run, Soundness, Ranges, Laws, Refusals, Procedure, Standings; rtgs_http_feeds Region; rtgs_http_bodies
-// Refusals, Statuses, Answers, Readings; rtgs_batches Batches, Sent; rtgs_order_files Results, BatchFaults, OrderFile;
-// rtgs_cores Cores; rtgs_money Forms, Lexical, Amounts, Digits, Units; rtgs_repeats Lasting, Batch, Repeats, Once;
-// rtgs_refusals Table; rtgs_statements Texts, Records, Lines, Sums, Tallies, Columns.
+// To judge it, read these 75 files, 460 definitions: rtgs_desk Seen, Holding, batches.Batches, batches.Sent, Replies,
+// Readings; rtgs_http_bodies replies.Messages, desks.Written, replies.Kinds, Refusals, Statuses, Answers,
+// replies.Texts, replies.Bodies, Readings, desks.Accounts; rtgs_http_server banks.Exchange, reply_laws.Alike,
+// banks.Handling, banks.ReplyMessages; rtgs_http_requests Same, Exchange, Meaning, Callers, Steps, Bodies,
+// heads.Targets, Access, feeds.Region, heads.Heads, heads.Fields, Faults, heads.Tables, Contents; rtgs_ledger Keys,
+// Kept; the ten of a command; rtgs_book Calm, Session, cores.Cores, Run, Soundness, Ranges, Laws, Refusals, Procedure,
+// Standings; rtgs_order_files Results, BatchFaults, OrderFile; rtgs_money Forms, Lexical, Amounts, Digits, Units;
+// rtgs_laws repeats.Lasting, repeats.Batch, repeats.Repeats, repeats.Once; rtgs_refusals Table; rtgs_statements Texts,
+// Records, Lines, Sums, Tallies, Columns.
 pub fn a_book_and_an_input_have_one_reply<K: Keeper>()
     ensures asked { (operator input : List ℕ) (old : Book) (one other : Seen K) (sent again : Message)
         (first : Handles K.Keeper operator old input one sent) (second : Handles K.Keeper operator old input other again)
@@ -110,14 +114,15 @@ pub fn a_book_and_an_input_have_one_reply<K: Keeper>()
 /// **Promise 13. Nobody acts but with his own key.** The commands of a request are those of the operator's key, or
 /// orders and withdrawals of the participant whose key the input carries. Whatever a desk holds, a request changes it
 /// only for what the bearer of a key may ask.
-// To judge it, read these 76 files, 465 definitions: rtgs_promises Keys; rtgs_desk Seen, Holding, Replies, Readings;
-// rtgs_http_replies Messages, Kinds, Texts, Bodies; rtgs_http_banks Exchange, Handling, ReplyMessages;
-// rtgs_http_requests Access, Exchange, Callers, Meaning, Steps, Bodies, Faults, Plans, Contents; rtgs_ledger Keys,
-// Kept; rtgs_batches Batches, Sent; rtgs_http_feeds Region; rtgs_http_heads Heads, Fields, Targets, Tables;
-// rtgs_desk_texts Written, Accounts; the ten of a command; rtgs_book Calm, Session, Refusals, Run, Soundness, Ranges,
-// Laws, Procedure, Standings; rtgs_http_bodies Refusals, Statuses, Answers, Readings; rtgs_cores Following, Cores;
-// rtgs_money Forms, Lexical, Amounts, Digits, Units; rtgs_order_files Results, BatchFaults, OrderFile; rtgs_repeats
-// Lasting, Batch, Repeats, Once; rtgs_refusals Table; rtgs_statements Texts, Records, Lines, Sums, Tallies, Columns.
+// To judge it, read these 76 files, 465 definitions: rtgs_promises Keys; rtgs_desk Seen, batches.Batches, Holding,
+// batches.Sent, Replies, Readings; rtgs_http_bodies replies.Messages, desks.Written, Refusals, replies.Kinds, Statuses,
+// Answers, replies.Texts, replies.Bodies, Readings, desks.Accounts; rtgs_http_server banks.Exchange, banks.Handling,
+// banks.ReplyMessages; rtgs_http_requests Access, Exchange, feeds.Region, heads.Heads, heads.Fields, Callers, Meaning,
+// Steps, Bodies, heads.Targets, Faults, Plans, heads.Tables, Contents; rtgs_ledger Keys, Kept; the ten of a command;
+// rtgs_book Calm, cores.Following, Session, cores.Cores, Refusals, Run, Soundness, Ranges, Laws, Procedure, Standings;
+// rtgs_money Forms, Lexical, Amounts, Digits, Units; rtgs_order_files Results, BatchFaults, OrderFile; rtgs_laws
+// repeats.Lasting, repeats.Batch, repeats.Repeats, repeats.Once; rtgs_refusals Table; rtgs_statements Texts, Records,
+// Lines, Sums, Tallies, Columns.
 pub fn nobody_acts_with_the_key_of_another<K: Keeper>()
     ensures commands { (operator input : List ℕ) (book : Book) (desk : Seen K) (sent : Message)
         (request : Handles K.Keeper operator book input desk sent)
@@ -129,14 +134,15 @@ pub fn nobody_acts_with_the_key_of_another<K: Keeper>()
 
 /// **Promise 13. And nobody reads the rows of others.** Two books that agree in a participant's own rows give the same
 /// reply to each reading that carries its key. Set aside are replies with the status 503.
-// To judge it, read these 74 files, 461 definitions: rtgs_desk Seen, Holding, Replies, Readings; rtgs_http_replies
-// Messages, Kinds, Texts, Bodies; rtgs_http_laws Own; rtgs_http_requests Exchange, Access, Callers, Meaning, Steps,
-// Bodies, Faults, Contents; rtgs_ledger Keys, Kept; rtgs_http_banks Exchange, Handling, ReplyMessages; the ten of a
-// command; rtgs_http_heads Targets, Heads, Fields, Tables; rtgs_http_feeds Region; rtgs_desk_texts Written, Accounts;
-// rtgs_money Forms, Lexical, Amounts, Digits, Units; rtgs_http_bodies Refusals, Statuses, Answers, Readings;
-// rtgs_batches Batches, Sent; rtgs_order_files Results, OrderFile, BatchFaults; rtgs_book Calm, Session, Run, Laws,
-// Refusals, Soundness, Ranges, Procedure, Standings; rtgs_repeats Lasting, Batch, Repeats, Once; rtgs_cores Cores;
-// rtgs_refusals Table; rtgs_statements Texts, Records, Lines, Sums, Tallies, Columns.
+// To judge it, read these 74 files, 461 definitions: rtgs_desk Seen, Holding, batches.Batches, batches.Sent, Replies,
+// Readings; rtgs_http_bodies replies.Messages, desks.Written, replies.Kinds, Refusals, Statuses, Answers,
+// replies.Texts, replies.Bodies, Readings, desks.Accounts; rtgs_http_server reply_laws.Own, banks.Exchange,
+// banks.Handling, banks.ReplyMessages; rtgs_http_requests Exchange, Access, Callers, Meaning, Steps, Bodies,
+// heads.Targets, feeds.Region, heads.Heads, heads.Fields, heads.Tables, Faults, Contents; rtgs_ledger Keys, Kept; the
+// ten of a command; rtgs_money Forms, Lexical, Amounts, Digits, Units; rtgs_order_files Results, OrderFile,
+// BatchFaults; rtgs_book Calm, Session, Run, cores.Cores, Laws, Refusals, Soundness, Ranges, Procedure, Standings;
+// rtgs_laws repeats.Lasting, repeats.Batch, repeats.Repeats, repeats.Once; rtgs_refusals Table; rtgs_statements Texts,
+// Records, Lines, Sums, Tallies, Columns.
 pub fn nobody_reads_the_rows_of_others<K: Keeper>()
     ensures { (operator input code : List ℕ) (one other : Book) (first second : Seen K) (sent again : Message)
         (reading : Reading) → AgreeFor code one other

@@ -7,9 +7,9 @@ use Rattle.rtgs_book.specs.declared.change.RowChange.TheVariants.{AddParticipant
 use Rattle.rtgs_book.specs.declared.change.RowChange.TheVariants.{SetCredit, SetBalance, SetState, EnterQueue, SetDay}
 use Rattle.rtgs_book.specs.declared.limits.TheConstants.{LARGEST_NUMBER, MOST_PARTICIPANTS}
 use Rattle.rtgs_book.specs.Books.{is_held, is_waiting, is_waiting_state}
-use Rattle.rtgs_cores.specs.declared.Core.{Core}
-use Rattle.rtgs_cores.specs.Following.{is_of, core_after_row}
-use Rattle.rtgs_accounts.specs.Accounts.{has_key}
+use Rattle.rtgs_book.specs.declared.cores.cores.Core.{Core}
+use Rattle.rtgs_book.specs.cores.Following.{is_of, core_after_row}
+use Rattle.rtgs_records.specs.accounts.Accounts.{has_key}
 
 -- how many participants, and orders that are queued or held, can be added without memory, the sender of whom there is
 -- room for one more, and whether that one may be held

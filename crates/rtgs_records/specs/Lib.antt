@@ -1,2 +1,4 @@
 pub mod Held
 pub mod Records
+pub mod accounts
+pub mod queues

@@ -1,5 +1,5 @@
 -- The records of a ledger as contracts see them.
-use Rattle.rtgs_cores.specs.declared.Core.{Core}
+use Rattle.rtgs_book.specs.declared.cores.cores.Core.{Core}
 use Rattle.rtgs_records.specs.declared.records.Records.{Records}
 use Rattle.rtgs_records.specs.Held.{Held}
 

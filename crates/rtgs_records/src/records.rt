@@ -5,7 +5,7 @@ ghost use Rattle.rtgs_book.specs.declared.limits.TheConstants.{LARGEST_NUMBER, L
 ghost use Rattle.rtgs_money.specs.Amounts.{IsAmount, IsCredit};
 ghost use Rattle.rtgs_book.specs.declared.order.Order.{Order};
 ghost use Rattle.rtgs_book.specs.IntSum.{int_sum_by};
-ghost use Rattle.rtgs_accounts.specs.Accounts.{balance_of, code_of};
+ghost use Rattle.rtgs_records.specs.accounts.Accounts.{balance_of, code_of};
 ghost use Rattle.rtgs_book.specs.Balance.{floor_at};
 ghost use Rattle.rtgs_book.specs.Books.{is_closed, is_open, is_cut_off, is_empty};
 ghost use Rattle.rtgs_book.specs.Commands.{first_state, has_choice, is_date, is_later};
@@ -13,12 +13,12 @@ ghost use Rattle.rtgs_book.specs.Queue.{queued_numbers};
 ghost use Rattle.rtgs_records.specs.Records.{held_of};
 ghost use Rattle.rtgs_records.specs.Held.{FindsRoom, after_row};
 
-use rtgs_accounts::Accounts;
+use crate::accounts::Accounts;
+use crate::queues::Orders;
 use rtgs_book::{
     Account, Day, LARGEST_NUMBER, LARGEST_TOTAL, Mark, Order, OrderState, Phase, RowChange,
 };
 use rtgs_money::{Amount, BusinessDate, Cents, Code, Credit, PostingAmount, Reference};
-use rtgs_queues::Orders;
 
 /// What a ledger has of a book: accounts with their balances, the orders that are queued or held, the day, and the
 /// numbers of the next records.

@@ -5,10 +5,10 @@ use Rattle.std.proofs.lemmas.Bool.{cases_Bool}
 use Rattle.rtgs_lists.proofs.Filters.{all_put_in}
 use Rattle.rtgs_lists.proofs.Lists.{all_map, all_weaker}
 use Rattle.rtgs_money.specs.Amounts.{IsCredit}
-use Rattle.rtgs_book.specs.declared.Book.{Book}
-use Rattle.rtgs_book.specs.declared.Participant.{Participant}
-use Rattle.rtgs_book.specs.declared.RowChange.{RowChange}
-use Rattle.rtgs_book.specs.declared.RowChange.TheVariants.{AddParticipant, SetCredit, SetDay}
+use Rattle.rtgs_book.specs.declared.book.Book.{Book}
+use Rattle.rtgs_book.specs.declared.participant.Participant.{Participant}
+use Rattle.rtgs_book.specs.declared.change.RowChange.{RowChange}
+use Rattle.rtgs_book.specs.declared.change.RowChange.TheVariants.{AddParticipant, SetCredit, SetDay}
 use Rattle.rtgs_book.specs.Commands.{is_before, with_participant, with_credit, with_state, let_in}
 use Rattle.rtgs_book.specs.Changes.{with_row, changed}
 use Rattle.rtgs_book.specs.Lookup.{has_code}

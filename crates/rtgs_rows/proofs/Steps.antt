@@ -10,11 +10,11 @@ use Rattle.sqlite.specs.Tree.{IsAscending}
 use Rattle.sqlite_keyed.proofs.ListLemmas.{ascending_from_map, ascending_weaker}
 use Rattle.rtgs_lists.proofs.Lists.{all_map, all_push, all_weaker}
 use Rattle.rtgs_money.specs.Date.{IsBusinessDate}
-use Rattle.rtgs_book.specs.declared.Book.{Book}
-use Rattle.rtgs_book.specs.declared.Order.{Order}
-use Rattle.rtgs_book.specs.declared.OrderState.{OrderState}
-use Rattle.rtgs_book.specs.declared.RowChange.{RowChange}
-use Rattle.rtgs_book.specs.declared.RowChange.TheVariants.{AddPosting, AddOrder, AddMark, SetState, EnterQueue}
+use Rattle.rtgs_book.specs.declared.book.Book.{Book}
+use Rattle.rtgs_book.specs.declared.order.Order.{Order}
+use Rattle.rtgs_book.specs.declared.order_state.OrderState.{OrderState}
+use Rattle.rtgs_book.specs.declared.change.RowChange.{RowChange}
+use Rattle.rtgs_book.specs.declared.change.RowChange.TheVariants.{AddPosting, AddOrder, AddMark, SetState, EnterQueue}
 use Rattle.rtgs_book.specs.Changes.{with_row}
 use Rattle.rtgs_book.specs.Commands.{with_participant, with_credit, with_state, let_in, entered, has_number}
 use Rattle.rtgs_book.specs.Commands.{is_held_with}

@@ -12,14 +12,15 @@ use Rattle.sqlite.specs.State.{State}
 use Rattle.sqlite.specs.Effect.{Database}
 use Rattle.sqlite_catalog.specs.Listing.{IsSound}
 use Rattle.rtgs_book.specs.declared.account.Account.{Account}
-use Rattle.rtgs_book.specs.declared.Day.{Day}
-use Rattle.rtgs_book.specs.declared.Participant.{Participant}
-use Rattle.rtgs_book.specs.declared.Posting.{Posting}
-use Rattle.rtgs_book.specs.declared.Order.{Order}
-use Rattle.rtgs_book.specs.declared.Mark.{Mark}
-use Rattle.rtgs_book.specs.declared.RowChange.{RowChange}
-use Rattle.rtgs_book.specs.declared.RowChange.TheVariants.{AddParticipant, AddPosting, AddOrder, AddMark, SetCredit}
-use Rattle.rtgs_book.specs.declared.RowChange.TheVariants.{SetBalance, SetState, EnterQueue, SetDay}
+use Rattle.rtgs_book.specs.declared.day.Day.{Day}
+use Rattle.rtgs_book.specs.declared.participant.Participant.{Participant}
+use Rattle.rtgs_book.specs.declared.posting.Posting.{Posting}
+use Rattle.rtgs_book.specs.declared.order.Order.{Order}
+use Rattle.rtgs_book.specs.declared.mark.Mark.{Mark}
+use Rattle.rtgs_book.specs.declared.change.RowChange.{RowChange}
+use Rattle.rtgs_book.specs.declared.change.RowChange.TheVariants.{AddParticipant, AddPosting, AddOrder, AddMark}
+use Rattle.rtgs_book.specs.declared.change.RowChange.TheVariants.{SetCredit}
+use Rattle.rtgs_book.specs.declared.change.RowChange.TheVariants.{SetBalance, SetState, EnterQueue, SetDay}
 use Rattle.rtgs_book.specs.Settle.{altered, restated}
 use Rattle.rtgs_book.specs.Commands.{has_number, is_held_with, entered}
 use Rattle.rtgs_rows.specs.Dues.{forward_for}

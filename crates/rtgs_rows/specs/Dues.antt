@@ -1,7 +1,7 @@
 -- The due dates of orders, which stand in a table of their own.
 use Rattle.std.specs.Prelude.{◌≡◌, ℕ, false, List, [], ◌∷◌, Option, Some, None}
 use Rattle.std.specs.List.{flat_map}
-use Rattle.rtgs_book.specs.declared.Order.{Order}
+use Rattle.rtgs_book.specs.declared.order.Order.{Order}
 use Rattle.rtgs_book.specs.Books.{is_held}
 use Rattle.rtgs_rows.specs.declared.forward.Forward.{Forward}
 

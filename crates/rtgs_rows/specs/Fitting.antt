@@ -5,15 +5,16 @@ use Rattle.rtgs_money.specs.declared.key_digest.TheConstants.KeyDigest as KeyDig
 use Rattle.rtgs_money.specs.Forms.{IsCode, IsReference, IsName}
 use Rattle.rtgs_money.specs.Amounts.{IsAmount, IsPostingAmount, IsCredit}
 use Rattle.rtgs_money.specs.Date.{IsBusinessDate}
-use Rattle.rtgs_book.specs.declared.Participant.{Participant}
-use Rattle.rtgs_book.specs.declared.Posting.{Posting}
-use Rattle.rtgs_book.specs.declared.Order.{Order}
-use Rattle.rtgs_book.specs.declared.Mark.{Mark}
-use Rattle.rtgs_book.specs.declared.Book.{Book}
+use Rattle.rtgs_book.specs.declared.participant.Participant.{Participant}
+use Rattle.rtgs_book.specs.declared.posting.Posting.{Posting}
+use Rattle.rtgs_book.specs.declared.order.Order.{Order}
+use Rattle.rtgs_book.specs.declared.mark.Mark.{Mark}
+use Rattle.rtgs_book.specs.declared.book.Book.{Book}
 use Rattle.rtgs_rows.specs.declared.forward.Forward.{Forward}
-use Rattle.rtgs_book.specs.declared.RowChange.{RowChange}
-use Rattle.rtgs_book.specs.declared.RowChange.TheVariants.{AddParticipant, AddPosting, AddOrder, AddMark, SetCredit}
-use Rattle.rtgs_book.specs.declared.RowChange.TheVariants.{EnterQueue, SetDay}
+use Rattle.rtgs_book.specs.declared.change.RowChange.{RowChange}
+use Rattle.rtgs_book.specs.declared.change.RowChange.TheVariants.{AddParticipant, AddPosting, AddOrder, AddMark}
+use Rattle.rtgs_book.specs.declared.change.RowChange.TheVariants.{SetCredit}
+use Rattle.rtgs_book.specs.declared.change.RowChange.TheVariants.{EnterQueue, SetDay}
 
 -- no date, or a business date
 abbrev pub FitsDate : Option ℕ → Type 0

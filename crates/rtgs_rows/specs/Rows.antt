@@ -6,16 +6,16 @@ use Rattle.sqlite.specs.declared.types.Value.TheVariants.{Null, Int, Text, Blob}
 use Rattle.sqlite.specs.Order.{Row}
 use Rattle.sqlite.specs.Values.{or_null}
 use Rattle.rtgs_money.specs.Date.{date_text}
-use Rattle.rtgs_book.specs.declared.Day.{Day}
-use Rattle.rtgs_book.specs.declared.Phase.{Phase}
-use Rattle.rtgs_book.specs.declared.Phase.TheVariants.{Closed, Open, CutOff}
+use Rattle.rtgs_book.specs.declared.day.Day.{Day}
+use Rattle.rtgs_book.specs.declared.phase.Phase.{Phase}
+use Rattle.rtgs_book.specs.declared.phase.Phase.TheVariants.{Closed, Open, CutOff}
 use Rattle.rtgs_book.specs.declared.account.Account.{Account}
-use Rattle.rtgs_book.specs.declared.Participant.{Participant}
-use Rattle.rtgs_book.specs.declared.Posting.{Posting}
-use Rattle.rtgs_book.specs.declared.Order.{Order}
-use Rattle.rtgs_book.specs.declared.Mark.{Mark}
-use Rattle.rtgs_book.specs.declared.OrderState.{OrderState}
-use Rattle.rtgs_book.specs.declared.OrderState.TheVariants.{Queued, Held, Settled, Withdrawn, Rejected}
+use Rattle.rtgs_book.specs.declared.participant.Participant.{Participant}
+use Rattle.rtgs_book.specs.declared.posting.Posting.{Posting}
+use Rattle.rtgs_book.specs.declared.order.Order.{Order}
+use Rattle.rtgs_book.specs.declared.mark.Mark.{Mark}
+use Rattle.rtgs_book.specs.declared.order_state.OrderState.{OrderState}
+use Rattle.rtgs_book.specs.declared.order_state.OrderState.TheVariants.{Queued, Held, Settled, Withdrawn, Rejected}
 use Rattle.rtgs_rows.specs.declared.numbers.TheConstants.{PHASE_CLOSED, PHASE_OPEN, PHASE_CUT_OFF, STATE_QUEUED}
 use Rattle.rtgs_rows.specs.declared.numbers.TheConstants.{STATE_SETTLED, STATE_WITHDRAWN, STATE_REJECTED, STATE_HELD}
 use Rattle.rtgs_rows.specs.declared.numbers.TheConstants.{RESOLUTION_ON_REQUEST, RESOLUTION_AUTOMATIC}

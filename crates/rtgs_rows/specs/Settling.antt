@@ -4,7 +4,7 @@ use Rattle.std.proofs.Common.{sym, ap, subst, ◌∙◌, arith}
 use Rattle.sqlite_trees.specs.declared.store.Store.{Ghosts}
 use Rattle.sqlite.specs.Tree.{Trees}
 use Rattle.sqlite.specs.Held.{Held, state}
-use Rattle.rtgs_book.specs.declared.Book.{Book}
+use Rattle.rtgs_book.specs.declared.book.Book.{Book}
 use Rattle.rtgs_rows.specs.Content.{tables_of, Holds}
 use Rattle.rtgs_rows.specs.Keeping.{HoldsBook, MayLeave, IsWhole}
 use Rattle.rtgs_rows.specs.Tables.{IsVersion}

@@ -1,7 +1,7 @@
 //! Laws of the definitions. Each function does nothing: its contract is the law.
 ghost use Rattle.std.specs.Prelude.{List};
-ghost use Rattle.rtgs_book.specs.declared.Book.{Book};
-ghost use Rattle.rtgs_book.specs.declared.RowChange.{RowChange};
+ghost use Rattle.rtgs_book.specs.declared.book.Book.{Book};
+ghost use Rattle.rtgs_book.specs.declared.change.RowChange.{RowChange};
 ghost use Rattle.sqlite.specs.Schema.{Schema};
 ghost use Rattle.sqlite.specs.Tree.{Trees};
 ghost use Rattle.sqlite.specs.Held.{state};

@@ -8,15 +8,15 @@ use Rattle.std.specs.List.{list_any, AllByRecursion}
 use Rattle.std.specs.BTreeMap.{BTreeMap, get}
 use Rattle.std.specs.Ordering.{nat_cmp, is_eq, eq_by_cmp, ordering_reverse}
 use Rattle.std.specs.Cmp.Lexicographic.{slice_cmp, nat_list_cmp_total}
-use Rattle.rtgs_book.specs.declared.Account.{Account}
-use Rattle.rtgs_book.specs.declared.Book.{Book}
-use Rattle.rtgs_book.specs.declared.Participant.{Participant}
+use Rattle.rtgs_book.specs.declared.account.Account.{Account}
+use Rattle.rtgs_book.specs.declared.book.Book.{Book}
+use Rattle.rtgs_book.specs.declared.participant.Participant.{Participant}
 use Rattle.rtgs_book.specs.declared.limits.TheConstants.{LARGEST_BALANCE}
 use Rattle.rtgs_book.specs.Balance.{balance}
 use Rattle.rtgs_book.specs.Laws.{BalancesFit}
 use Rattle.rtgs_book.specs.Lookup.{accounts}
 use Rattle.rtgs_book.specs.Totals.{Totals, Within}
-use Rattle.rtgs_cores.specs.Cores.{account_of}
+use Rattle.rtgs_book.specs.cores.Cores.{account_of}
 
 self_equal : (a : List ℕ) → is_eq (slice_cmp nat_cmp a a) ≡ true
 self_equal a = by (slice_cmp nat_cmp a a) (nat_list_cmp_total.antisymm a a)

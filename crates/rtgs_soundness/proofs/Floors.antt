@@ -4,8 +4,8 @@ use Rattle.std.proofs.Common.{◌↔◌, refl, sym, subst}
 use Rattle.std.specs.Cmp.Lexicographic.{slice_cmp, bytes_decides}
 use Rattle.std.specs.List.{AllByRecursion}
 use Rattle.std.specs.List.Sorted.{IsStrictlySortedBy}
-use Rattle.rtgs_book.specs.declared.Book.{Book}
-use Rattle.rtgs_book.specs.declared.Participant.{Participant}
+use Rattle.rtgs_book.specs.declared.book.Book.{Book}
+use Rattle.rtgs_book.specs.declared.participant.Participant.{Participant}
 use Rattle.rtgs_book.specs.Lookup.{has_code, participant_of, credit_of, accounts}
 use Rattle.rtgs_book.specs.Balance.{balance, floor, floor_at}
 use Rattle.rtgs_book.specs.Soundness.{CodesRise, FloorsHold}

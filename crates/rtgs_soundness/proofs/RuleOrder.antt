@@ -9,9 +9,9 @@ use Rattle.rtgs_book.specs.declared.rule.Rule.TheVariants.{Keys, OrderReferences
 use Rattle.rtgs_book.specs.declared.rule.Rule.TheVariants.{Queues, Dates, Floors, Total, StoredBalances}
 use Rattle.rtgs_book.specs.declared.rule.Rule.TheVariants.{AutomaticDay, Calm}
 use Rattle.rtgs_book.specs.declared.limits.TheConstants.{LARGEST_NUMBER, LARGEST_TOTAL}
-use Rattle.rtgs_book.specs.declared.Book.{Book}
-use Rattle.rtgs_book.specs.declared.Posting.{Posting}
-use Rattle.rtgs_book.specs.declared.Order.{Order}
+use Rattle.rtgs_book.specs.declared.book.Book.{Book}
+use Rattle.rtgs_book.specs.declared.posting.Posting.{Posting}
+use Rattle.rtgs_book.specs.declared.order.Order.{Order}
 use Rattle.rtgs_book.specs.Judgement.{Keeps, KeepsBefore, rule_number}
 use Rattle.rtgs_book.specs.Soundness.{TotalFits, IsSound}
 use Rattle.rtgs_book.specs.Balance.{issued, total}

@@ -1,8 +1,8 @@
 -- What a check adds up for each mark, and compares it with.
 use Rattle.std.specs.Prelude.{◌≡◌, ℕ, ◌+◌, ◌<◌, ◌≤◌, pos, ◌+ℤ◌, List, filter, length, slice_index_or}
 use Rattle.rtgs_soundness.specs.declared.rules.mark_tally.MarkTally.{MarkTally}
-use Rattle.rtgs_book.specs.declared.Order.{Order}
-use Rattle.rtgs_book.specs.declared.Mark.{Mark}
+use Rattle.rtgs_book.specs.declared.order.Order.{Order}
+use Rattle.rtgs_book.specs.declared.mark.Mark.{Mark}
 use Rattle.rtgs_book.specs.IntSum.{int_sum_by}
 use Rattle.rtgs_book.specs.Soundness.{is_state_under}
 use Rattle.rtgs_book.specs.Totals.{Within}

@@ -8,13 +8,12 @@ ghost use Rattle.rtgs_book.specs.declared.limits.TheConstants.{LARGEST_NUMBER};
 ghost use Rattle.rtgs_book.specs.Books.{is_waiting};
 ghost use Rattle.rtgs_book.specs.Ranges.{Fits};
 ghost use Rattle.rtgs_book.specs.Soundness.{IsSound};
-ghost use Rattle.rtgs_cores.specs.Cores.{account_of, core_of};
+ghost use Rattle.rtgs_book.specs.cores.Cores.{account_of, core_of};
 
 use crate::rules::queues::is_waiting;
 use crate::soundness::balances;
 use rtgs_book::laws::balances_are_small;
-use rtgs_book::{Account, Book, Order, Participant, Rows};
-use rtgs_cores::Core;
+use rtgs_book::{Account, Book, Core, Order, Participant, Rows};
 use rtgs_money::{Cents, Code};
 use std::alloc::{AllocError, Global};
 use std::collections::BTreeMap;

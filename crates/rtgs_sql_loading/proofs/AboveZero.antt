@@ -4,12 +4,12 @@ use Rattle.std.proofs.Common.{length, refl, sym, subst, true≢false, arith}
 use Rattle.std.proofs.lemmas.Bool.Decides.{nat_tests}
 use Rattle.std.specs.List.{AllByRecursion, list_any, range_with_len}
 use Rattle.sqlite_keyed.proofs.ListLemmas.{all_unmap}
-use Rattle.rtgs_book.specs.declared.Book.{Book}
-use Rattle.rtgs_book.specs.declared.Posting.{Posting}
-use Rattle.rtgs_book.specs.declared.Order.{Order}
-use Rattle.rtgs_book.specs.declared.OrderState.{OrderState}
-use Rattle.rtgs_book.specs.declared.OrderState.TheVariants.{Queued, Held, Settled, Withdrawn, Rejected}
-use Rattle.rtgs_book.specs.declared.Mark.{Mark}
+use Rattle.rtgs_book.specs.declared.book.Book.{Book}
+use Rattle.rtgs_book.specs.declared.posting.Posting.{Posting}
+use Rattle.rtgs_book.specs.declared.order.Order.{Order}
+use Rattle.rtgs_book.specs.declared.order_state.OrderState.{OrderState}
+use Rattle.rtgs_book.specs.declared.order_state.OrderState.TheVariants.{Queued, Held, Settled, Withdrawn, Rejected}
+use Rattle.rtgs_book.specs.declared.mark.Mark.{Mark}
 use Rattle.rtgs_book.specs.Soundness.{AreNumbered, HasMark, CountsItsOrders, IsSound}
 use Rattle.rtgs_sql_columns.specs.Numbers.{IsNumberedState, IsNumberedOrder, IsNumberedMark, IsNumberedBook}
 

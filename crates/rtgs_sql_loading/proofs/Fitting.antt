@@ -4,7 +4,7 @@ use Rattle.std.proofs.Common.{eqb-true, eq-eqb, true≢false, refl, sym, subst, 
 use Rattle.std.specs.List.{AllByRecursion}
 use Rattle.std.proofs.lemmas.Bool.{cases_Bool}
 use Rattle.sqlite_keyed.proofs.ListLemmas.{all_weaker}
-use Rattle.rtgs_book.specs.declared.Order.{Order}
+use Rattle.rtgs_book.specs.declared.order.Order.{Order}
 use Rattle.rtgs_book.specs.Books.{is_held}
 use Rattle.rtgs_rows.specs.declared.forward.Forward.{Forward}
 use Rattle.rtgs_sql_loading.specs.Joining.{Takes, AreJoined}

@@ -13,18 +13,18 @@ use Rattle.std.proofs.lemmas.Bool.Decides.{Decides-int_eq}
 use Rattle.std.proofs.lemmas.Cmp.{nat_list_cmp_total, eq_by_cmp_equiv}
 use Rattle.std.proofs.Math.Bool.{or-true}
 use Rattle.sqlite_keyed.proofs.ListLemmas.{all_weaker, map-map}
-use Rattle.rtgs_book.specs.declared.Book.{Book}
+use Rattle.rtgs_book.specs.declared.book.Book.{Book}
 use Rattle.rtgs_book.specs.Balance.{balance}
 use Rattle.rtgs_book.specs.Lookup.{accounts}
 use Rattle.rtgs_book.specs.Totals.{Totals}
-use Rattle.rtgs_book.specs.declared.Participant.{Participant}
-use Rattle.rtgs_book.specs.declared.Fault.{Fault}
-use Rattle.rtgs_book.specs.declared.Fault.TheVariants.{OutOfMemory, StoreFault, NotADeskFile, Inconsistent}
-use Rattle.rtgs_book.specs.declared.Rule.{Rule}
-use Rattle.rtgs_book.specs.declared.Rule.TheVariants.{OrderNumbers, PostingNumbers, MarkNumbers, ParticipantCodes}
-use Rattle.rtgs_book.specs.declared.Rule.TheVariants.{Keys, OrderReferences, PostingReferences, Parties, Marks}
-use Rattle.rtgs_book.specs.declared.Rule.TheVariants.{Queues, Dates, Floors, Total, StoredBalances, AutomaticDay}
-use Rattle.rtgs_book.specs.declared.Rule.TheVariants.{Calm}
+use Rattle.rtgs_book.specs.declared.participant.Participant.{Participant}
+use Rattle.rtgs_book.specs.declared.fault.Fault.{Fault}
+use Rattle.rtgs_book.specs.declared.fault.Fault.TheVariants.{OutOfMemory, StoreFault, NotADeskFile, Inconsistent}
+use Rattle.rtgs_book.specs.declared.rule.Rule.{Rule}
+use Rattle.rtgs_book.specs.declared.rule.Rule.TheVariants.{OrderNumbers, PostingNumbers, MarkNumbers, ParticipantCodes}
+use Rattle.rtgs_book.specs.declared.rule.Rule.TheVariants.{Keys, OrderReferences, PostingReferences, Parties, Marks}
+use Rattle.rtgs_book.specs.declared.rule.Rule.TheVariants.{Queues, Dates, Floors, Total, StoredBalances, AutomaticDay}
+use Rattle.rtgs_book.specs.declared.rule.Rule.TheVariants.{Calm}
 use Rattle.rtgs_book.specs.Judgement.{Keeps, KeepsBefore, BreaksFirst, rule_number}
 use Rattle.rtgs_book.specs.Soundness.{IsSound}
 use Rattle.rtgs_book.specs.declared.account.Account.{Account}

@@ -4,12 +4,12 @@ use Rattle.sqlite.specs.Effect.{Database}
 use Rattle.sqlite.proofs.StateLemmas.{survives_then}
 use Rattle.sqlite.specs.State.{State, HasCleanDisk, IsUnchanged, Survives}
 use Rattle.sqlite.specs.declared.error.Error.{Error}
-use Rattle.rtgs_book.specs.declared.Rule.{Rule}
+use Rattle.rtgs_book.specs.declared.rule.Rule.{Rule}
 use Rattle.rtgs_sql_queries.specs.Faults.{IsOfStore}
 use Rattle.rtgs_sql_loading.specs.Loading.{TellsError}
 use Rattle.sqlite.specs.Tree.{Trees}
-use Rattle.rtgs_book.specs.declared.Fault.{Fault}
-use Rattle.rtgs_book.specs.declared.Fault.TheVariants.{OutOfMemory, StoreFault, NotADeskFile, Inconsistent}
+use Rattle.rtgs_book.specs.declared.fault.Fault.{Fault}
+use Rattle.rtgs_book.specs.declared.fault.Fault.TheVariants.{OutOfMemory, StoreFault, NotADeskFile, Inconsistent}
 use Rattle.rtgs_rows.specs.Content.{Content, RestsIn}
 use Rattle.rtgs_rows.specs.Querying.{IsFileIn}
 use Rattle.rtgs_rows.specs.Tables.{schema_in}

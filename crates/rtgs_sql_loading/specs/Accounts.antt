@@ -9,11 +9,11 @@ use Rattle.std.specs.Cmp.Lexicographic.{slice_cmp}
 use Rattle.sqlite.specs.Order.{Row}
 use Rattle.sqlite.specs.Table.{Table}
 use Rattle.sqlite.specs.Tree.{Trees}
-use Rattle.rtgs_book.specs.declared.Book.{Book}
-use Rattle.rtgs_book.specs.declared.Fault.{Fault}
-use Rattle.rtgs_book.specs.declared.Fault.TheVariants.{OutOfMemory, StoreFault, NotADeskFile, Inconsistent}
-use Rattle.rtgs_book.specs.declared.Rule.{Rule}
-use Rattle.rtgs_book.specs.declared.Rule.TheVariants.{StoredBalances, Calm}
+use Rattle.rtgs_book.specs.declared.book.Book.{Book}
+use Rattle.rtgs_book.specs.declared.fault.Fault.{Fault}
+use Rattle.rtgs_book.specs.declared.fault.Fault.TheVariants.{OutOfMemory, StoreFault, NotADeskFile, Inconsistent}
+use Rattle.rtgs_book.specs.declared.rule.Rule.{Rule}
+use Rattle.rtgs_book.specs.declared.rule.Rule.TheVariants.{StoredBalances, Calm}
 use Rattle.rtgs_book.specs.Judgement.{Keeps, BreaksFirst, rule_number}
 use Rattle.rtgs_rows.specs.Dues.{IsHeldByDue}
 use Rattle.rtgs_rows.specs.Fitting.{HasFormedValues}

@@ -2,7 +2,7 @@
 use Rattle.std.specs.Prelude.{◌≡◌, ◌↔◌, ℕ, ◌<◌, ◌==◌, true, List}
 use Rattle.std.specs.List.{AllByRecursion, list_any}
 use Rattle.sqlite.specs.Tree.{IsAscending}
-use Rattle.rtgs_book.specs.declared.Order.{Order}
+use Rattle.rtgs_book.specs.declared.order.Order.{Order}
 use Rattle.rtgs_book.specs.Books.{is_held}
 use Rattle.rtgs_rows.specs.declared.forward.Forward.{Forward}
 use Rattle.rtgs_sql_loading.specs.Joining.{AreJoined}

@@ -1,6 +1,6 @@
 //! The version of the tables, which the one row of the table `desk` says.
 ghost use Rattle.std.specs.Prelude.{◌≡◌, ◌≢◌, ℕ, false, Err, IfOk, OnOk};
-ghost use Rattle.rtgs_book.specs.declared.Rule.{Rule};
+ghost use Rattle.rtgs_book.specs.declared.rule.Rule.{Rule};
 ghost use Rattle.rtgs_rows.specs.declared.desk_row.DeskRow.{DeskRow as DeskRowSpec};
 ghost use Rattle.rtgs_rows.specs.Querying.{as_shown};
 ghost use Rattle.rtgs_rows.specs.Tables.{desk_table};

@@ -1,6 +1,6 @@
 //! What the failure of a query says of the file.
 ghost use Rattle.std.specs.Prelude.{◌≡◌, ◌≢◌, ◌⊎◌, false};
-ghost use Rattle.rtgs_book.specs.declared.Rule.{Rule};
+ghost use Rattle.rtgs_book.specs.declared.rule.Rule.{Rule};
 ghost use Rattle.rtgs_sql_queries.specs.Answering.{KeepsTables};
 ghost use Rattle.rtgs_sql_queries.specs.Faults.{LookFailed};
 ghost use Rattle.rtgs_sql_loading.specs.Loading.{TellsError};

@@ -1,6 +1,6 @@
 //! The records of a table.
 ghost use Rattle.std.specs.Prelude.{◌≡◌, ◌≢◌, ◌⊎◌, ℕ, false, Err, IfOk, OnOk, ⊤};
-ghost use Rattle.rtgs_book.specs.declared.Rule.{Rule};
+ghost use Rattle.rtgs_book.specs.declared.rule.Rule.{Rule};
 ghost use Rattle.rtgs_rows.specs.Querying.{as_shown};
 ghost use Rattle.rtgs_rows.specs.TableRecords.{desk_records, resolution_records};
 ghost use Rattle.rtgs_rows.specs.Tables.{HasTable, desk_table, resolution_table};

@@ -1,7 +1,7 @@
 //! The book that the tables hold.
 ghost use Rattle.std.specs.Prelude.{◌≡◌, ◌≢◌, ◌↔◌, false, map, None, Err, IfOk, IfErr, IfSome, OnOk, IsTrue};
-ghost use Rattle.rtgs_book.specs.declared.Book.{Book};
-ghost use Rattle.rtgs_book.specs.declared.Rule.{Rule};
+ghost use Rattle.rtgs_book.specs.declared.book.Book.{Book};
+ghost use Rattle.rtgs_book.specs.declared.rule.Rule.{Rule};
 ghost use Rattle.rtgs_book.specs.declared.account.Account.{Account as AccountSpec};
 ghost use Rattle.rtgs_sql_queries.specs.Answering.{KeepsTables};
 ghost use Rattle.rtgs_sql_loading.specs.Accounts.{AreFormed, ExplainsBefore, ExplainsRead};

@@ -1,6 +1,6 @@
 //! The record of a table that has one row.
 ghost use Rattle.std.specs.Prelude.{◌≡◌, ◌≢◌, ℕ, false, Ok, Err, [], ◌∷◌, IfOk, IfErr, OnOk};
-ghost use Rattle.rtgs_book.specs.declared.Rule.{Rule};
+ghost use Rattle.rtgs_book.specs.declared.rule.Rule.{Rule};
 ghost use Rattle.rtgs_rows.specs.Querying.{as_shown};
 ghost use Rattle.rtgs_rows.specs.Tables.{HasTable, IsVersion};
 ghost use Rattle.rtgs_sql_columns.specs.Numbers.{AreReadAs};

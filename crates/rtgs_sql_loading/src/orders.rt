@@ -1,7 +1,7 @@
 //! Orders and their due dates, which are read from two tables.
 ghost use Rattle.std.specs.Prelude.{◌≡◌, ◌≤◌, ◌<◌, ◌+◌, true, false, List, None, ◌∷◌, drop, length};
 ghost use Rattle.std.specs.Prelude.{IfOk, IfErr, IfSome};
-ghost use Rattle.rtgs_book.specs.declared.Order.{Order as OrderSpec};
+ghost use Rattle.rtgs_book.specs.declared.order.Order.{Order as OrderSpec};
 ghost use Rattle.rtgs_sql_loading.specs.Joining.{IsNotNext, Takes, TakesNone, AreJoined};
 
 use rtgs_book::{Fault, Order};

@@ -7,9 +7,9 @@ use Rattle.std.proofs.lemmas.Bool.{cases_Bool}
 use Rattle.rtgs_book.specs.Books.{is_held}
 use Rattle.rtgs_book.specs.Settle.{today}
 use Rattle.rtgs_book.specs.Soundness.{FitsDue, IsSound}
-use Rattle.rtgs_book.specs.declared.Book.{Book}
-use Rattle.rtgs_book.specs.declared.Order.{Order}
-use Rattle.rtgs_cores.specs.Nexts.{AreNumberedInOrder}
+use Rattle.rtgs_book.specs.declared.book.Book.{Book}
+use Rattle.rtgs_book.specs.declared.order.Order.{Order}
+use Rattle.rtgs_book.specs.cores.Nexts.{AreNumberedInOrder}
 use Rattle.rtgs_lists.proofs.Finds.{all_found}
 use Rattle.rtgs_rows.specs.Dues.{without_due, forward_for, forwards_of}
 use Rattle.rtgs_rows.specs.Fitting.{FitsDate, FitsUndated, FitsOrder, FitsForward}

@@ -34,12 +34,12 @@ use Rattle.sqlite.proofs.Callers.{one_permutation}
 use Rattle.sqlite.proofs.StateLemmas.{survives_then}
 use Rattle.sqlite_trees.specs.declared.store.Store.{Ghosts}
 use Rattle.rtgs_money.specs.Date.{date_text}
-use Rattle.rtgs_book.specs.declared.Book.{Book}
-use Rattle.rtgs_book.specs.declared.Fault.{Fault}
-use Rattle.rtgs_book.specs.declared.Fault.TheVariants.{OutOfMemory, StoreFault}
-use Rattle.rtgs_book.specs.declared.Posting.{Posting}
-use Rattle.rtgs_book.specs.declared.Order.{Order}
-use Rattle.rtgs_book.specs.declared.Mark.{Mark}
+use Rattle.rtgs_book.specs.declared.book.Book.{Book}
+use Rattle.rtgs_book.specs.declared.fault.Fault.{Fault}
+use Rattle.rtgs_book.specs.declared.fault.Fault.TheVariants.{OutOfMemory, StoreFault}
+use Rattle.rtgs_book.specs.declared.posting.Posting.{Posting}
+use Rattle.rtgs_book.specs.declared.order.Order.{Order}
+use Rattle.rtgs_book.specs.declared.mark.Mark.{Mark}
 use Rattle.rtgs_rows.specs.declared.forward.Forward.{Forward}
 use Rattle.rtgs_book.specs.Lookup.{is_order_named, is_posting_named, order_named, posting_named}
 use Rattle.rtgs_book.specs.Soundness.{is_same_name}

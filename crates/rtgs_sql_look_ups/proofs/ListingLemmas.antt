@@ -19,9 +19,9 @@ use Rattle.sqlite.specs.State.{State}
 use Rattle.sqlite_sql.specs.Query.{output_cmp}
 use Rattle.sqlite_sql.specs.Program.{overlay}
 use Rattle.rtgs_money.specs.Date.{IsBusinessDate, date_text}
-use Rattle.rtgs_book.specs.declared.Book.{Book}
-use Rattle.rtgs_book.specs.declared.Order.{Order}
-use Rattle.rtgs_cores.specs.Nexts.{order_after, is_order_after}
+use Rattle.rtgs_book.specs.declared.book.Book.{Book}
+use Rattle.rtgs_book.specs.declared.order.Order.{Order}
+use Rattle.rtgs_book.specs.cores.Nexts.{order_after, is_order_after}
 use Rattle.rtgs_rows.specs.RowLaws.{RecordsStandInOrder}
 use Rattle.rtgs_rows.specs.Rows.{posting_row, order_row, mark_row, forward_row}
 use Rattle.rtgs_rows.specs.Content.{Content, Rests, Rise, rows_in}

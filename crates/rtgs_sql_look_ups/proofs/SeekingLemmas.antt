@@ -4,7 +4,7 @@ use Rattle.std.proofs.Common.{None, inl, inr, refl, sym, ◌∙◌, arith, eqb-t
 use Rattle.std.specs.List.{AllByRecursion, find}
 use Rattle.std.proofs.lemmas.Bool.{cases_Bool, ltb-true, lt-ltb}
 use Rattle.rtgs_book.specs.declared.limits.TheConstants.{LARGEST_NUMBER}
-use Rattle.rtgs_cores.specs.Nexts.{AreNumberedInOrder, AreDatedInOrder}
+use Rattle.rtgs_book.specs.cores.Nexts.{AreNumberedInOrder, AreDatedInOrder}
 use Rattle.rtgs_sql_look_ups.specs.Seeking.{first_above, first_of_date, is_early_found, kept_of_date, IsEarly, IsLate}
 use Rattle.rtgs_lists.proofs.Bools.{and_right_false}
 use Rattle.rtgs_lists.proofs.Finds.{find_nothing}

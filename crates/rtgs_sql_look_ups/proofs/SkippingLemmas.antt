@@ -7,8 +7,8 @@ use Rattle.std.specs.List.{AllByRecursion, find}
 use Rattle.std.proofs.lemmas.Bool.{cases_Bool, ltb-true, lt-ltb}
 use Rattle.rtgs_book.specs.Books.{has_due}
 use Rattle.rtgs_book.specs.Soundness.{FitsDue, NeverFall}
-use Rattle.rtgs_book.specs.declared.Order.{Order}
-use Rattle.rtgs_cores.specs.Nexts.{AreNumberedInOrder, is_order_after}
+use Rattle.rtgs_book.specs.declared.order.Order.{Order}
+use Rattle.rtgs_book.specs.cores.Nexts.{AreNumberedInOrder, is_order_after}
 use Rattle.rtgs_lists.proofs.Bools.{and_right_false}
 use Rattle.rtgs_lists.proofs.Finds.{all_found}
 use Rattle.rtgs_lists.proofs.Lists.{all_of, all_weaker, all_both}

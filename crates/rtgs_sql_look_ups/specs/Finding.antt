@@ -17,8 +17,8 @@ use Rattle.sqlite_sql.specs.declared.ops.CompareOp.TheVariants.{Eq, Gt}
 use Rattle.sqlite_resolve.specs.Compile.{first}
 use Rattle.sqlite_schema.specs.Names.{place_of}
 use Rattle.sqlite_trees.specs.declared.store.Store.{Ghosts}
-use Rattle.rtgs_book.specs.declared.Fault.{Fault}
-use Rattle.rtgs_book.specs.declared.Fault.TheVariants.{OutOfMemory, StoreFault}
+use Rattle.rtgs_book.specs.declared.fault.Fault.{Fault}
+use Rattle.rtgs_book.specs.declared.fault.Fault.TheVariants.{OutOfMemory, StoreFault}
 use Rattle.rtgs_rows.specs.TableRecords.{TableRecords}
 use Rattle.rtgs_rows.specs.declared.forward.Forward.{Forward}
 use Rattle.rtgs_sql_columns.specs.Numbers.{AreReadAs}

@@ -2,7 +2,7 @@
 use Rattle.std.specs.Prelude.{◌≡◌, ◌≢◌, ℕ, ◌<◌, ◌≤◌, true, false, List, Option}
 use Rattle.std.specs.List.{AllByRecursion}
 use Rattle.rtgs_book.specs.Books.{has_due}
-use Rattle.rtgs_book.specs.declared.Order.{Order}
+use Rattle.rtgs_book.specs.declared.order.Order.{Order}
 use Rattle.rtgs_rows.specs.Dues.{forwards_of}
 use Rattle.rtgs_rows.specs.declared.forward.Forward.{Forward}
 use Rattle.rtgs_sql_look_ups.specs.Seeking.{first_above}

@@ -1,7 +1,7 @@
 //! Passing over orders that are not of a date, by leaps: each is twice as long as the last while it passes orders, and
 //! then half as long.
 ghost use Rattle.std.specs.Prelude.{◌<◌, ◌≤◌, IfOk};
-ghost use Rattle.rtgs_book.specs.declared.Book.{Book};
+ghost use Rattle.rtgs_book.specs.declared.book.Book.{Book};
 ghost use Rattle.rtgs_rows.specs.Keeping.{HoldsBook};
 ghost use Rattle.rtgs_sql_look_ups.specs.Finding.{IsLook};
 ghost use Rattle.rtgs_sql_look_ups.specs.Skipping.{Between, IsOff, IsPlainOff};

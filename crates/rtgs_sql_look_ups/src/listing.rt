@@ -1,8 +1,8 @@
 //! The first record above a number: of all postings, marks, orders or due dates, and of the orders of a date.
 ghost use Rattle.std.specs.Prelude.{◌≡◌, ◌<◌, ◌^◌, List, Option, IfOk, length, option_map};
 ghost use Rattle.std.specs.List.{AllByRecursion};
-ghost use Rattle.rtgs_book.specs.declared.Book.{Book};
-ghost use Rattle.rtgs_cores.specs.Nexts.{date_of_posting, order_after};
+ghost use Rattle.rtgs_book.specs.declared.book.Book.{Book};
+ghost use Rattle.rtgs_book.specs.cores.Nexts.{date_of_posting, order_after};
 ghost use Rattle.rtgs_rows.specs.Content.{Content, Rests};
 ghost use Rattle.rtgs_rows.specs.Dues.{without_due};
 ghost use Rattle.rtgs_rows.specs.Keeping.{HoldsBook};
@@ -15,8 +15,8 @@ ghost use Rattle.sqlite.specs.Values.{bound};
 
 use crate::finding::{fault_of, only_record};
 use crate::seeking::Listed;
+use rtgs_book::cores::laws::records_are_listed;
 use rtgs_book::{Fault, LARGEST_NUMBER, Mark, Order, Posting};
-use rtgs_cores::laws::records_are_listed;
 use rtgs_money::BusinessDate;
 use rtgs_money::laws::dates_have_distinct_texts;
 use rtgs_rows::Forward;
@@ -50,8 +50,8 @@ pub(crate) fn first_record<T: TableRow + Drop, S: Alter>(
 }
 
 impl Listed for Posting {
-    ghost use Rattle.rtgs_book.specs.declared.Book.{Book};
-    ghost use Rattle.rtgs_cores.specs.Nexts.{date_of_posting};
+    ghost use Rattle.rtgs_book.specs.declared.book.Book.{Book};
+    ghost use Rattle.rtgs_book.specs.cores.Nexts.{date_of_posting};
 
     ghost listed = { λ (book : Book). book.postings };
 
@@ -82,7 +82,7 @@ impl Listed for Posting {
 }
 
 impl Listed for Mark {
-    ghost use Rattle.rtgs_book.specs.declared.Book.{Book};
+    ghost use Rattle.rtgs_book.specs.declared.book.Book.{Book};
 
     ghost listed = { λ (book : Book). book.marks };
 

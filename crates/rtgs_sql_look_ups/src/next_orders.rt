@@ -1,7 +1,7 @@
 //! The next order of a date.
 ghost use Rattle.std.specs.Prelude.{◌≡◌, IfOk, IfSome};
-ghost use Rattle.rtgs_book.specs.declared.Book.{Book};
-ghost use Rattle.rtgs_cores.specs.Nexts.{order_after};
+ghost use Rattle.rtgs_book.specs.declared.book.Book.{Book};
+ghost use Rattle.rtgs_book.specs.cores.Nexts.{order_after};
 ghost use Rattle.rtgs_rows.specs.Dues.{IsHeldByDue};
 ghost use Rattle.rtgs_rows.specs.Keeping.{HoldsBook};
 ghost use Rattle.rtgs_sql_look_ups.specs.Finding.{IsLook};
@@ -10,8 +10,8 @@ ghost use Rattle.sqlite.specs.Held.{state};
 
 use crate::leaping::pass_over;
 use crate::orders::{order_above, order_by_pass};
+use rtgs_book::cores::laws::records_are_listed;
 use rtgs_book::{Fault, LARGEST_NUMBER, Order};
-use rtgs_cores::laws::records_are_listed;
 use rtgs_money::BusinessDate;
 use sqlite::{Alter, Connection};
 

@@ -1,11 +1,11 @@
 //! Looking up orders. An order is two rows: one without its due date, and one with it where it has one.
 ghost use Rattle.std.specs.Prelude.{◌≡◌, Bool, Some, Ok, IfOk, IfErr, IfSome, option_map};
 ghost use Rattle.std.specs.List.{find};
-ghost use Rattle.rtgs_book.specs.declared.Book.{Book};
-ghost use Rattle.rtgs_book.specs.declared.Order.{Order as OrderSpec};
+ghost use Rattle.rtgs_book.specs.declared.book.Book.{Book};
+ghost use Rattle.rtgs_book.specs.declared.order.Order.{Order as OrderSpec};
 ghost use Rattle.rtgs_book.specs.Lookup.{order_named};
 ghost use Rattle.rtgs_book.specs.Soundness.{IsSound};
-ghost use Rattle.rtgs_cores.specs.Nexts.{order_after};
+ghost use Rattle.rtgs_book.specs.cores.Nexts.{order_after};
 ghost use Rattle.rtgs_rows.specs.Dues.{without_due, forwards_of, IsHeldByDue};
 ghost use Rattle.rtgs_rows.specs.Keeping.{HoldsBook};
 ghost use Rattle.rtgs_sql_look_ups.specs.Finding.{IsLook, due_under};
@@ -15,8 +15,8 @@ ghost use Rattle.sqlite.specs.Held.{state};
 
 use crate::finding::named_undated;
 use crate::listing::{first_record, undated_above, undated_after};
+use rtgs_book::cores::laws::records_are_listed;
 use rtgs_book::{Fault, LARGEST_NUMBER, Order};
-use rtgs_cores::laws::records_are_listed;
 use rtgs_money::{BusinessDate, Code, Reference};
 use rtgs_rows::Forward;
 use rtgs_rows::laws::records_stand_in_order;

@@ -1,8 +1,8 @@
 //! The next record of a date, by looks at single rows.
 ghost use Rattle.std.specs.Prelude.{◌≡◌, ℕ, ◌+◌, ◌<◌, ◌≤◌, ◌^◌, true, false, Option, List, IfOk};
-ghost use Rattle.rtgs_book.specs.declared.Book.{Book};
+ghost use Rattle.rtgs_book.specs.declared.book.Book.{Book};
 ghost use Rattle.rtgs_book.specs.declared.limits.TheConstants.{LARGEST_NUMBER};
-ghost use Rattle.rtgs_cores.specs.Nexts.{AreListed};
+ghost use Rattle.rtgs_book.specs.cores.Nexts.{AreListed};
 ghost use Rattle.rtgs_rows.specs.Keeping.{HoldsBook};
 ghost use Rattle.rtgs_sql_look_ups.specs.Finding.{IsLook};
 ghost use Rattle.rtgs_sql_look_ups.specs.Seeking.{first_above, first_of_date, is_early_found, kept_of_date, IsEarly};

@@ -1,7 +1,7 @@
 //! Passing over orders that are not of a date, by looks at single rows. The dates of plain orders, those without a due
 //! date, never fall along their numbers. Any other order may bear a later date than the orders after it.
 ghost use Rattle.std.specs.Prelude.{◌≡◌, Some, false, IfOk};
-ghost use Rattle.rtgs_book.specs.declared.Book.{Book};
+ghost use Rattle.rtgs_book.specs.declared.book.Book.{Book};
 ghost use Rattle.rtgs_book.specs.Books.{has_due};
 ghost use Rattle.rtgs_book.specs.Soundness.{IsSound};
 ghost use Rattle.rtgs_rows.specs.Keeping.{HoldsBook};
@@ -12,8 +12,8 @@ ghost use Rattle.sqlite.specs.Held.{state};
 
 use crate::listing::{forward_above, undated_above};
 use crate::orders::order_above;
+use rtgs_book::cores::laws::records_are_listed;
 use rtgs_book::{Fault, LARGEST_NUMBER, Order};
-use rtgs_cores::laws::records_are_listed;
 use rtgs_money::BusinessDate;
 use sqlite::{Alter, Connection};
 

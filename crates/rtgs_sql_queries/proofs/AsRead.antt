@@ -6,11 +6,11 @@ use Rattle.sqlite.specs.Order.{Row}
 use Rattle.sqlite.specs.declared.types.Value.{Value}
 use Rattle.sqlite.specs.declared.types.Value.TheVariants.{Null, Int, Text}
 use Rattle.sqlite_keyed.proofs.ListLemmas.{map-map, map_same}
-use Rattle.rtgs_book.specs.declared.Posting.{Posting}
-use Rattle.rtgs_book.specs.declared.Order.{Order}
-use Rattle.rtgs_book.specs.declared.OrderState.{OrderState}
-use Rattle.rtgs_book.specs.declared.OrderState.TheVariants.{Queued, Held, Settled, Withdrawn, Rejected}
-use Rattle.rtgs_book.specs.declared.Mark.{Mark}
+use Rattle.rtgs_book.specs.declared.posting.Posting.{Posting}
+use Rattle.rtgs_book.specs.declared.order.Order.{Order}
+use Rattle.rtgs_book.specs.declared.order_state.OrderState.{OrderState}
+use Rattle.rtgs_book.specs.declared.order_state.OrderState.TheVariants.{Queued, Held, Settled, Withdrawn, Rejected}
+use Rattle.rtgs_book.specs.declared.mark.Mark.{Mark}
 use Rattle.sqlite_value.specs.Order.{column}
 use Rattle.rtgs_money.specs.Date.{date_text, IsBusinessDate}
 use Rattle.rtgs_rows.specs.Fitting.{FitsDate}

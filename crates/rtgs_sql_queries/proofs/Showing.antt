@@ -26,7 +26,7 @@ use Rattle.sqlite.specs.State.{State, Shown}
 use Rattle.sqlite.proofs.Callers.{reads_as}
 use Rattle.sqlite.specs.Listing.{reads_listing}
 use Rattle.sqlite_typing.specs.Types.{accepts_program}
-use Rattle.rtgs_book.specs.declared.Book.{Book}
+use Rattle.rtgs_book.specs.declared.book.Book.{Book}
 use Rattle.rtgs_book.specs.declared.account.Account.{Account}
 use Rattle.rtgs_rows.specs.Tables.{places, HasTable}
 use Rattle.rtgs_rows.specs.TableRecords.{TableRecords}

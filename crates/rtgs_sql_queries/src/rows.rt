@@ -2,8 +2,8 @@
 ghost use Rattle.std.specs.Prelude.{◌≡◌, ◌<◌, pos, Bool, length, Some, IfSome, refl};
 ghost use Rattle.sqlite_value.specs.Order.{column};
 ghost use Rattle.sqlite.specs.declared.types.Value.TheVariants.{Int};
-ghost use Rattle.rtgs_book.specs.declared.Phase.{Phase as PhaseSpec};
-ghost use Rattle.rtgs_book.specs.declared.OrderState.{OrderState as StateSpec};
+ghost use Rattle.rtgs_book.specs.declared.phase.Phase.{Phase as PhaseSpec};
+ghost use Rattle.rtgs_book.specs.declared.order_state.OrderState.{OrderState as StateSpec};
 ghost use Rattle.rtgs_rows.specs.Rows.{desk_row_of, resolution_row_of, phase_number, resolution_number, state_number};
 ghost use Rattle.rtgs_rows.specs.Rows.{mark_value};
 ghost use Rattle.rtgs_rows.specs.TableRecords.{desk_records, account_records, posting_records, order_records};

@@ -1,8 +1,8 @@
 //! What a table's row says.
 ghost use Rattle.std.specs.Prelude.{◌≡◌, ◌≢◌, ◌≤◌, ◌<◌, ℕ, List, [], ◌∷◌, Some, Err, IfOk, IfSome};
 ghost use Rattle.std.specs.List.{AllByRecursion};
-ghost use Rattle.rtgs_book.specs.declared.Book.{Book};
-ghost use Rattle.rtgs_book.specs.declared.Rule.{Rule};
+ghost use Rattle.rtgs_book.specs.declared.book.Book.{Book};
+ghost use Rattle.rtgs_book.specs.declared.rule.Rule.{Rule};
 ghost use Rattle.rtgs_book.specs.declared.account.Account.{Account as AccountSpec};
 ghost use Rattle.rtgs_rows.specs.TableRecords.{TableRecords, HasNoMoreBeyond, at_first};
 ghost use Rattle.rtgs_rows.specs.Tables.{HasTable, IsVersion};

@@ -1,6 +1,6 @@
 //! All rows of a table.
 ghost use Rattle.std.specs.Prelude.{◌≡◌, ◌⊎◌, ℕ, List, IfOk, IfErr};
-ghost use Rattle.rtgs_book.specs.declared.Book.{Book};
+ghost use Rattle.rtgs_book.specs.declared.book.Book.{Book};
 ghost use Rattle.rtgs_book.specs.declared.account.Account.{Account as AccountSpec};
 ghost use Rattle.rtgs_rows.specs.Querying.{IsFileIn};
 ghost use Rattle.rtgs_rows.specs.Tables.{HasTable, schema_in};

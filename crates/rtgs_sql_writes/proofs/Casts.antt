@@ -7,8 +7,8 @@ use Rattle.sqlite.specs.Kind.TheVariants.{Integer}
 use Rattle.sqlite.specs.Kind.TheVariants as kind
 use Rattle.sqlite.specs.Values.{or_null, bound_value}
 use Rattle.rtgs_money.specs.Date.{date_text}
-use Rattle.rtgs_book.specs.declared.OrderState.{OrderState}
-use Rattle.rtgs_book.specs.declared.OrderState.TheVariants.{Queued, Held, Settled, Withdrawn, Rejected}
+use Rattle.rtgs_book.specs.declared.order_state.OrderState.{OrderState}
+use Rattle.rtgs_book.specs.declared.order_state.OrderState.TheVariants.{Queued, Held, Settled, Withdrawn, Rejected}
 use Rattle.rtgs_rows.specs.Rows.{date_value, mark_value}
 use Rattle.sqlite.specs.Cast.{cast}
 

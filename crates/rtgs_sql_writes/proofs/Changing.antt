@@ -4,7 +4,7 @@ use Rattle.std.proofs.Common.{subst, ◌∙◌}
 use Rattle.std.specs.List.{AllByRecursion}
 use Rattle.std.proofs.lemmas.List.{take_more}
 use Rattle.rtgs_lists.proofs.Lists.{all_push}
-use Rattle.rtgs_book.specs.declared.RowChange.{RowChange}
+use Rattle.rtgs_book.specs.declared.change.RowChange.{RowChange}
 use Rattle.rtgs_rows.specs.Fitting.{FitsRow}
 use Rattle.rtgs_rows.specs.Content.{Content, IsInOrder, AreInOrder, with_change, with_changes}
 

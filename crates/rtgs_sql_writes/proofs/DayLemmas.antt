@@ -28,7 +28,7 @@ use Rattle.rtgs_sql_writes.specs.Building.{with_rows}
 use Rattle.rtgs_sql_writes.proofs.StateLemmas.{framed, stands_on}
 use Rattle.rtgs_sql_writes.proofs.Writing.{IsUnderstoodAs, updated}
 use Rattle.rtgs_sql_writes.proofs.Passing.{truth_of, same_number}
-use Rattle.rtgs_book.specs.declared.Day.{Day}
+use Rattle.rtgs_book.specs.declared.day.Day.{Day}
 use Rattle.rtgs_rows.specs.declared.numbers.TheConstants.{VERSION}
 use Rattle.rtgs_rows.specs.Rows.{date_value, phase_number, day_row}
 use Rattle.rtgs_rows.specs.Content.{rows_in, Content, IsUnderWay}

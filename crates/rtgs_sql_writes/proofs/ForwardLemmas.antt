@@ -20,8 +20,8 @@ use Rattle.rtgs_sql_writes.proofs.Casts.{cast_null, cast_int}
 use Rattle.rtgs_sql_writes.specs.Building.{with_rows}
 use Rattle.rtgs_sql_writes.proofs.Writing.{IsUnderstoodAs}
 use Rattle.rtgs_sql_writes.proofs.Adding.{adds}
-use Rattle.rtgs_book.specs.declared.Order.{Order}
-use Rattle.rtgs_book.specs.declared.RowChange.TheVariants.{AddOrder}
+use Rattle.rtgs_book.specs.declared.order.Order.{Order}
+use Rattle.rtgs_book.specs.declared.change.RowChange.TheVariants.{AddOrder}
 use Rattle.rtgs_money.specs.Date.{date_text}
 use Rattle.rtgs_rows.specs.Dues.{forward_for}
 use Rattle.rtgs_rows.specs.declared.forward.Forward.{Forward}

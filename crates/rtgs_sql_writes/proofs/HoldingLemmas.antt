@@ -36,8 +36,8 @@ use Rattle.rtgs_sql_writes.specs.Building.{with_rows}
 use Rattle.rtgs_sql_writes.proofs.StateLemmas.{framed, stands_on}
 use Rattle.rtgs_sql_writes.proofs.Writing.{IsUnderstoodAs, inserted, updated}
 use Rattle.rtgs_sql_writes.proofs.Passing.{truth_of, same_text}
-use Rattle.rtgs_book.specs.declared.Participant.{Participant}
-use Rattle.rtgs_book.specs.declared.RowChange.TheVariants.{AddParticipant, SetCredit, SetBalance}
+use Rattle.rtgs_book.specs.declared.participant.Participant.{Participant}
+use Rattle.rtgs_book.specs.declared.change.RowChange.TheVariants.{AddParticipant, SetCredit, SetBalance}
 use Rattle.rtgs_rows.specs.Rows.{participant_row}
 use Rattle.rtgs_rows.specs.Content.{rows_in, Holding, Content, holding_row, IsUnderWay, IsInOrder, with_change}
 use Rattle.rtgs_rows.specs.Content.{with_credit_in, with_balance_in, newcomer}

@@ -39,9 +39,9 @@ use Rattle.rtgs_sql_writes.proofs.StateLemmas.{framed, stands_on}
 use Rattle.rtgs_sql_writes.proofs.Adding.{adds}
 use Rattle.rtgs_sql_writes.proofs.Writing.{IsUnderstoodAs, updated}
 use Rattle.rtgs_sql_writes.proofs.Passing.{truth_of, same_number}
-use Rattle.rtgs_book.specs.declared.Order.{Order}
-use Rattle.rtgs_book.specs.declared.OrderState.{OrderState}
-use Rattle.rtgs_book.specs.declared.RowChange.TheVariants.{AddOrder, SetState}
+use Rattle.rtgs_book.specs.declared.order.Order.{Order}
+use Rattle.rtgs_book.specs.declared.order_state.OrderState.{OrderState}
+use Rattle.rtgs_book.specs.declared.change.RowChange.TheVariants.{AddOrder, SetState}
 use Rattle.rtgs_book.specs.Settle.{restated}
 use Rattle.rtgs_book.specs.Commands.{has_number}
 use Rattle.rtgs_money.specs.Date.{date_text}

@@ -15,8 +15,8 @@ use Rattle.sqlite.specs.Effect.{Database, value_rows}
 use Rattle.sqlite.specs.State.{State, ExecutesInside}
 use Rattle.sqlite.specs.Values.{bound_value}
 use Rattle.sqlite_tied.specs.Compute.{everything}
-use Rattle.rtgs_book.specs.declared.Posting.{Posting}
-use Rattle.rtgs_book.specs.declared.RowChange.TheVariants.{AddPosting}
+use Rattle.rtgs_book.specs.declared.posting.Posting.{Posting}
+use Rattle.rtgs_book.specs.declared.change.RowChange.TheVariants.{AddPosting}
 use Rattle.rtgs_rows.specs.Tables.{schema_in, posting_table as table}
 use Rattle.rtgs_rows.specs.Rows.{date_value, posting_row}
 use Rattle.rtgs_rows.specs.Content.{rows_in, Content, IsUnderWay, IsInOrder, with_change}

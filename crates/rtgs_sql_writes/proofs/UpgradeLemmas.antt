@@ -32,7 +32,7 @@ use Rattle.rtgs_sql_writes.proofs.Writing.{IsUnderstoodAs, updated}
 use Rattle.rtgs_sql_writes.proofs.Passing.{truth_of, same_number}
 use Rattle.rtgs_sql_writes.specs.Building.{IsBuilt, with_rows}
 use Rattle.rtgs_sql_writes.proofs.CreateLemmas.{newest}
-use Rattle.rtgs_book.specs.declared.Day.{Day}
+use Rattle.rtgs_book.specs.declared.day.Day.{Day}
 use Rattle.rtgs_rows.specs.declared.numbers.TheConstants.{VERSION}
 use Rattle.rtgs_book.specs.Books.{new_book}
 use Rattle.rtgs_rows.specs.Rows.{day_row, choice_row, phase_number}

@@ -1,8 +1,8 @@
 -- Reads one after another.
 use Rattle.std.proofs.Common.{◌≢◌, Bool, Option, Some, None, refl, sym, ◌∙◌}
-use Rattle.rtgs_book.specs.declared.Book.{Book}
-use Rattle.rtgs_book.specs.declared.Refusal.{Refusal}
-use Rattle.rtgs_book.specs.declared.Refusal.TheVariants.{StoreFault}
+use Rattle.rtgs_book.specs.declared.book.Book.{Book}
+use Rattle.rtgs_book.specs.declared.refusal.Refusal.{Refusal}
+use Rattle.rtgs_book.specs.declared.refusal.Refusal.TheVariants.{StoreFault}
 use Rattle.rtgs_statements.specs.Reads.{LeavesRead}
 
 pub no_fault : ◌≢◌ {A = Option Refusal} None (Some StoreFault)

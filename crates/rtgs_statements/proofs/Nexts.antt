@@ -4,7 +4,7 @@ use Rattle.std.proofs.Common.{Some, None, refl, sym, ap, subst, ◌∙◌, arith
 use Rattle.std.specs.Prelude.{nat_lt}
 use Rattle.std.specs.List.{AllByRecursion, find, range_with_len}
 use Rattle.std.proofs.lemmas.Bool.{cases_Bool, and_parts, ltb-true, lt-ltb}
-use Rattle.rtgs_cores.specs.Nexts.{AreNumberedInOrder}
+use Rattle.rtgs_book.specs.cores.Nexts.{AreNumberedInOrder}
 use Rattle.rtgs_lists.proofs.Filters.{filter_agrees}
 
 not_less : (a b : ℕ) → b ≤ a → nat_lt a b ≡ false

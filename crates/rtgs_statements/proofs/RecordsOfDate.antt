@@ -6,13 +6,13 @@ use Rattle.std.proofs.lemmas.Option.{slice_get_within, get_or_from_slice_get}
 use Rattle.std.specs.List.{range_with_len}
 use Rattle.std.specs.Str.{bytes_eq}
 use Rattle.rtgs_book.specs.Books.{is_settled}
-use Rattle.rtgs_book.specs.declared.Book.{Book}
-use Rattle.rtgs_book.specs.declared.Posting.{Posting}
-use Rattle.rtgs_book.specs.declared.Order.{Order}
-use Rattle.rtgs_book.specs.declared.Mark.{Mark}
+use Rattle.rtgs_book.specs.declared.book.Book.{Book}
+use Rattle.rtgs_book.specs.declared.posting.Posting.{Posting}
+use Rattle.rtgs_book.specs.declared.order.Order.{Order}
+use Rattle.rtgs_book.specs.declared.mark.Mark.{Mark}
 use Rattle.rtgs_book.specs.Soundness.{IsSound, AreNumbered}
-use Rattle.rtgs_cores.specs.Nexts.{AreNumberedInOrder, posting_after, order_after, is_posting_after}
-use Rattle.rtgs_cores.specs.Nexts.{is_order_after, mark_after, is_mark_after}
+use Rattle.rtgs_book.specs.cores.Nexts.{AreNumberedInOrder, posting_after, order_after, is_posting_after}
+use Rattle.rtgs_book.specs.cores.Nexts.{is_order_after, mark_after, is_mark_after}
 use Rattle.rtgs_statements.specs.Lines.{row_of_posting, row_of_order, row_text}
 use Rattle.rtgs_statements.specs.declared.line.Line.TheVariants.{Record}
 use Rattle.rtgs_statements.specs.Records.{is_posted_on, is_ordered_on, is_marked_on, postings_on, orders_on, marks_on}

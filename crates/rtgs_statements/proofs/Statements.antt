@@ -1,7 +1,7 @@
 -- A statement from its parts.
 use Rattle.std.proofs.Common.{◌≡◌, ◌<◌, ◌++◌, ◌∷◌, ℕ, List, map, length, [], length-append, append_assoc, arith, sym}
 use Rattle.std.proofs.Common.{ap, ◌∙◌}
-use Rattle.rtgs_book.specs.declared.Book.{Book}
+use Rattle.rtgs_book.specs.declared.book.Book.{Book}
 use Rattle.rtgs_statements.specs.Lines.{row_of_posting, row_of_order}
 use Rattle.rtgs_statements.specs.declared.line.Line.TheVariants.{StatementOf, Record, Sum}
 use Rattle.rtgs_statements.specs.declared.total.Total.TheVariants.{Posted, Sent, Received, Net}

@@ -1,6 +1,6 @@
 //! What a day report tells.
 ghost use Rattle.std.specs.Prelude.{◌≡◌, map, IfOk, string_bytes};
-ghost use Rattle.rtgs_book.specs.declared.Book.{Book};
+ghost use Rattle.rtgs_book.specs.declared.book.Book.{Book};
 ghost use Rattle.rtgs_statements.specs.declared.line.Line.{Line};
 ghost use Rattle.rtgs_statements.specs.Days.{IsDayOf};
 ghost use Rattle.rtgs_statements.specs.Reads.{LeavesRead, refused_by};

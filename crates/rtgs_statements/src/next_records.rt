@@ -1,7 +1,7 @@
 //! The next records of a date, by rising numbers whatever they are read from.
 ghost use Rattle.std.specs.Prelude.{◌≡◌, ◌<◌, IfOk, IfSome};
-ghost use Rattle.rtgs_book.specs.declared.Book.{Book};
-ghost use Rattle.rtgs_cores.specs.Nexts.{posting_after, order_after, mark_after};
+ghost use Rattle.rtgs_book.specs.declared.book.Book.{Book};
+ghost use Rattle.rtgs_book.specs.cores.Nexts.{posting_after, order_after, mark_after};
 ghost use Rattle.rtgs_statements.specs.Reads.{LeavesRead, refused_by};
 
 use crate::source::Source;

@@ -1,6 +1,6 @@
 //! What the records of a date come to, summed as they are read.
 ghost use Rattle.std.specs.Prelude.{◌≡◌, ℕ, List, IfOk, length};
-ghost use Rattle.rtgs_book.specs.declared.Book.{Book};
+ghost use Rattle.rtgs_book.specs.declared.book.Book.{Book};
 ghost use Rattle.rtgs_book.specs.Lookup.{accounts};
 ghost use Rattle.rtgs_statements.specs.Days.{GathersOrders};
 ghost use Rattle.rtgs_statements.specs.Reads.{LeavesRead, refused_by};
@@ -11,8 +11,8 @@ use crate::next_records::{later_mark, later_order, later_posting};
 use crate::ordered::Ordered;
 use crate::source::Source;
 use crate::totals::add;
+use rtgs_book::cores::laws::records_are_listed;
 use rtgs_book::{MOST_PARTICIPANTS, Refusal};
-use rtgs_cores::laws::records_are_listed;
 use rtgs_money::{BusinessDate, Code};
 use std::alloc::{AllocError, Global};
 use std::collections::BTreeMap;

@@ -1,7 +1,7 @@
 //! Day reports.
 ghost use Rattle.std.specs.Prelude.{◌≡◌, ◌≢◌, IfErr, IfOk, OnOk, OnErr, string_bytes};
 ghost use Rattle.std.specs.Io.KnownBytes.{Appends};
-ghost use Rattle.rtgs_book.specs.declared.Book.{Book};
+ghost use Rattle.rtgs_book.specs.declared.book.Book.{Book};
 ghost use Rattle.rtgs_book.specs.declared.refusal.Refusal.{Refusal};
 ghost use Rattle.rtgs_output.specs.Sent.{AppendsPart};
 ghost use Rattle.rtgs_statements.specs.Reads.{LeavesRead, refused_by, read_refused_by};

@@ -1,9 +1,9 @@
 //! What texts are read from.
 ghost use Rattle.std.specs.Prelude.{◌≡◌, Bool, true, Err, IfOk, slice_get};
-ghost use Rattle.rtgs_book.specs.declared.Book.{Book};
+ghost use Rattle.rtgs_book.specs.declared.book.Book.{Book};
 ghost use Rattle.rtgs_book.specs.Lookup.{accounts};
 ghost use Rattle.rtgs_book.specs.Soundness.{IsSound};
-ghost use Rattle.rtgs_cores.specs.Nexts.{posting_after, order_after, mark_after};
+ghost use Rattle.rtgs_book.specs.cores.Nexts.{posting_after, order_after, mark_after};
 ghost use Rattle.rtgs_statements.specs.Reads.{LeavesRead, refused_by};
 
 use rtgs_book::{Mark, Order, Posting, Refusal};

@@ -1,7 +1,7 @@
 //! Statements that are written row by row, as their records are read.
 ghost use Rattle.std.specs.Prelude.{◌≡◌, IfOk, IfErr, OnOk, OnErr};
 ghost use Rattle.std.specs.Io.KnownBytes.{Appends};
-ghost use Rattle.rtgs_book.specs.declared.Book.{Book};
+ghost use Rattle.rtgs_book.specs.declared.book.Book.{Book};
 ghost use Rattle.rtgs_output.specs.Sent.{AppendsPart};
 ghost use Rattle.rtgs_statements.specs.Reads.{LeavesRead, AppendsBeginning, read_refused_by};
 ghost use Rattle.rtgs_statements.specs.Reads.{AppendsWholeLines, LeavesLines, LeavesWholeLines};
@@ -20,8 +20,8 @@ use crate::party::Party;
 use crate::row::Row;
 use crate::source::Source;
 use crate::sums::{Sums, sum_lines};
+use rtgs_book::cores::laws::records_are_listed;
 use rtgs_book::{Order, OrderState, Posting};
-use rtgs_cores::laws::records_are_listed;
 use rtgs_money::{BusinessDate, Code};
 use rtgs_output::TextFault;
 use std::alloc::Global;

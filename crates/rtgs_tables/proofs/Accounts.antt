@@ -12,15 +12,15 @@ use Rattle.sqlite.specs.State.{State}
 use Rattle.sqlite.specs.Tree.{IsAscending}
 use Rattle.rtgs_sql_queries.specs.Records.{AreRead, HasRecords}
 use Rattle.sqlite_keyed.proofs.ListLemmas.{ascending-map, ascending_from_map, map_back}
-use Rattle.rtgs_book.specs.declared.Book.{Book}
-use Rattle.rtgs_book.specs.declared.Day.{Day}
+use Rattle.rtgs_book.specs.declared.book.Book.{Book}
+use Rattle.rtgs_book.specs.declared.day.Day.{Day}
 use Rattle.rtgs_book.specs.Books.{new_book}
 use Rattle.rtgs_book.specs.Balance.{balance}
-use Rattle.rtgs_book.specs.declared.Participant.{Participant}
+use Rattle.rtgs_book.specs.declared.participant.Participant.{Participant}
 use Rattle.rtgs_book.specs.Lookup.{accounts}
 use Rattle.rtgs_book.specs.Soundness.{CodesRise, FitsDue}
 use Rattle.rtgs_book.specs.Settle.{today}
-use Rattle.rtgs_book.specs.declared.Order.{Order}
+use Rattle.rtgs_book.specs.declared.order.Order.{Order}
 use Rattle.rtgs_lists.proofs.Lists.{all_get}
 use Rattle.rtgs_rows.specs.Content.{Holding, Content, RestsIn, stored_account}
 use Rattle.rtgs_book.specs.declared.account.Account.{Account}

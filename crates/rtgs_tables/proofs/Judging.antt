@@ -2,14 +2,16 @@
 use Rattle.std.proofs.Common.{◌≡◌, ◌≢◌, ◌⊎◌, inl, inr, List, Ok, Err, Result, IfOk, IfErr, refl, sym, ap, subst, ◌∙◌}
 use Rattle.std.specs.Result.{IsErrAnd}
 use Rattle.sqlite.specs.State.{State}
-use Rattle.rtgs_book.specs.declared.Book.{Book}
+use Rattle.rtgs_book.specs.declared.book.Book.{Book}
 use Rattle.rtgs_book.specs.declared.account.Account.{Account}
-use Rattle.rtgs_book.specs.declared.Fault.{Fault}
-use Rattle.rtgs_book.specs.declared.Fault.TheVariants.{OutOfMemory, StoreFault, NotADeskFile, Inconsistent}
-use Rattle.rtgs_book.specs.declared.Rule.{Rule}
-use Rattle.rtgs_book.specs.declared.Rule.TheVariants.{OrderNumbers, PostingNumbers, MarkNumbers, ParticipantCodes, Keys}
-use Rattle.rtgs_book.specs.declared.Rule.TheVariants.{OrderReferences, PostingReferences, Parties, Marks, Queues, Dates}
-use Rattle.rtgs_book.specs.declared.Rule.TheVariants.{Floors, Total, StoredBalances, AutomaticDay, Calm}
+use Rattle.rtgs_book.specs.declared.fault.Fault.{Fault}
+use Rattle.rtgs_book.specs.declared.fault.Fault.TheVariants.{OutOfMemory, StoreFault, NotADeskFile, Inconsistent}
+use Rattle.rtgs_book.specs.declared.rule.Rule.{Rule}
+use Rattle.rtgs_book.specs.declared.rule.Rule.TheVariants.{OrderNumbers, PostingNumbers, MarkNumbers, ParticipantCodes}
+use Rattle.rtgs_book.specs.declared.rule.Rule.TheVariants.{Keys}
+use Rattle.rtgs_book.specs.declared.rule.Rule.TheVariants.{OrderReferences, PostingReferences, Parties, Marks, Queues}
+use Rattle.rtgs_book.specs.declared.rule.Rule.TheVariants.{Dates}
+use Rattle.rtgs_book.specs.declared.rule.Rule.TheVariants.{Floors, Total, StoredBalances, AutomaticDay, Calm}
 use Rattle.rtgs_book.specs.Judgement.{Keeps}
 use Rattle.rtgs_book.specs.Soundness.{IsSound}
 use Rattle.rtgs_rows.specs.Keeping.{AreBalances}

@@ -8,13 +8,13 @@ use Rattle.sqlite.specs.State.{HasCleanDisk}
 use Rattle.sqlite.specs.Held.{Held, state}
 use Rattle.sqlite_trees.specs.declared.store.Store.{Ghosts}
 use Rattle.rtgs_money.specs.Date.{IsBusinessDate}
-use Rattle.rtgs_book.specs.declared.Book.{Book}
-use Rattle.rtgs_book.specs.declared.Posting.{Posting}
-use Rattle.rtgs_book.specs.declared.Fault.{Fault}
-use Rattle.rtgs_book.specs.declared.Fault.TheVariants.{OutOfMemory, StoreFault, NotADeskFile, Inconsistent}
-use Rattle.rtgs_book.specs.declared.Rule.{Rule}
+use Rattle.rtgs_book.specs.declared.book.Book.{Book}
+use Rattle.rtgs_book.specs.declared.posting.Posting.{Posting}
+use Rattle.rtgs_book.specs.declared.fault.Fault.{Fault}
+use Rattle.rtgs_book.specs.declared.fault.Fault.TheVariants.{OutOfMemory, StoreFault, NotADeskFile, Inconsistent}
+use Rattle.rtgs_book.specs.declared.rule.Rule.{Rule}
 use Rattle.rtgs_book.specs.Commands.{is_date}
-use Rattle.rtgs_cores.specs.Nexts.{posting_after, is_posting_after, date_of_posting}
+use Rattle.rtgs_book.specs.cores.Nexts.{posting_after, is_posting_after, date_of_posting}
 use Rattle.rtgs_keeper.specs.Calls.{OnlyReads}
 use Rattle.rtgs_rows.specs.declared.numbers.TheConstants.{VERSION}
 use Rattle.rtgs_rows.specs.Keeping.{HoldsBook, MayLeave, IsWhole}

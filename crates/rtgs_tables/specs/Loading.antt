@@ -5,10 +5,10 @@ use Rattle.sqlite.specs.State.{State}
 use Rattle.sqlite.specs.Tree.{Trees}
 use Rattle.sqlite_trees.specs.declared.store.Store.{Ghosts}
 use Rattle.rtgs_book.specs.declared.account.Account.{Account}
-use Rattle.rtgs_book.specs.declared.Book.{Book}
-use Rattle.rtgs_book.specs.declared.Fault.{Fault}
-use Rattle.rtgs_book.specs.declared.Fault.TheVariants.{OutOfMemory, StoreFault, Inconsistent}
-use Rattle.rtgs_book.specs.declared.Rule.{Rule}
+use Rattle.rtgs_book.specs.declared.book.Book.{Book}
+use Rattle.rtgs_book.specs.declared.fault.Fault.{Fault}
+use Rattle.rtgs_book.specs.declared.fault.Fault.TheVariants.{OutOfMemory, StoreFault, Inconsistent}
+use Rattle.rtgs_book.specs.declared.rule.Rule.{Rule}
 use Rattle.rtgs_rows.specs.Keeping.{HoldsBook, MayLeave, IsWhole}
 use Rattle.rtgs_rows.specs.Querying.{IsDeskFile, HasTables}
 use Rattle.rtgs_rows.specs.declared.numbers.TheConstants.{VERSION}

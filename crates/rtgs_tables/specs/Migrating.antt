@@ -5,9 +5,9 @@ use Rattle.sqlite.specs.Effect.{Database}
 use Rattle.sqlite.specs.State.{State}
 use Rattle.sqlite.specs.Tree.{Trees}
 use Rattle.rtgs_book.specs.declared.account.Account.{Account}
-use Rattle.rtgs_book.specs.declared.Book.{Book}
-use Rattle.rtgs_book.specs.declared.Fault.{Fault}
-use Rattle.rtgs_book.specs.declared.Fault.TheVariants.{OutOfMemory, StoreFault, NotADeskFile, Inconsistent}
+use Rattle.rtgs_book.specs.declared.book.Book.{Book}
+use Rattle.rtgs_book.specs.declared.fault.Fault.{Fault}
+use Rattle.rtgs_book.specs.declared.fault.Fault.TheVariants.{OutOfMemory, StoreFault, NotADeskFile, Inconsistent}
 use Rattle.rtgs_book.specs.Soundness.{IsSound}
 use Rattle.rtgs_rows.specs.Content.{Content, RestsIn, Holds}
 use Rattle.rtgs_rows.specs.Migrating.{HasNoMore}

@@ -1,7 +1,7 @@
 //! Tables of an earlier version become those of the newest.
 ghost use Rattle.std.specs.Prelude.{◌≡◌, ◌≢◌, ◌⊎◌, ◌≤◌, true, false, Ok, Err, IfOk, IfErr, OnOk};
-ghost use Rattle.rtgs_book.specs.declared.Book.{Book};
-ghost use Rattle.rtgs_book.specs.declared.Rule.{Rule};
+ghost use Rattle.rtgs_book.specs.declared.book.Book.{Book};
+ghost use Rattle.rtgs_book.specs.declared.rule.Rule.{Rule};
 ghost use Rattle.rtgs_rows.specs.Content.{Content, Holds, Rests, RestsIn};
 ghost use Rattle.rtgs_rows.specs.Migrating.{HasNoMore, Migrates};
 ghost use Rattle.rtgs_sql_columns.specs.Blank.{IsBlank};

@@ -1,7 +1,7 @@
 //! A book in the tables of a connection.
 ghost use Rattle.std.specs.Prelude.{◌≡◌, ◌≢◌, ◌⊎◌, true, false, Err, IfOk, IfErr};
-ghost use Rattle.rtgs_book.specs.declared.Book.{Book};
-ghost use Rattle.rtgs_book.specs.declared.Fault.{Fault};
+ghost use Rattle.rtgs_book.specs.declared.book.Book.{Book};
+ghost use Rattle.rtgs_book.specs.declared.fault.Fault.{Fault};
 ghost use Rattle.rtgs_rows.specs.Keeping.{IsBookOf, HoldsBook, MayLeave, IsWhole};
 ghost use Rattle.rtgs_rows.specs.Querying.{HasTables};
 ghost use Rattle.rtgs_book.specs.Books.{new_book};
@@ -16,9 +16,8 @@ ghost use Rattle.rtgs_tables.specs.Loading.{AnswersBook, LeavesConnection};
 ghost use Rattle.rtgs_rows.specs.RowLaws.{RowsTellTheBook, TablesOfABookAreWhole, TablesOfABookAreWhole-prop};
 
 use crate::faults::fault_of;
-use rtgs_book::{Book, Change, Fault, Mark, Order, Posting};
-use rtgs_cores::Core;
-use rtgs_cores::laws::records_are_listed;
+use rtgs_book::cores::laws::records_are_listed;
+use rtgs_book::{Book, Change, Core, Fault, Mark, Order, Posting};
 use rtgs_keeper::{CommitFault, Keeper};
 use rtgs_money::{BusinessDate, Code, Reference};
 use rtgs_rows::laws;

@@ -1,8 +1,7 @@
 //! Orders of a batch, in words.
 use crate::scripts::{command, is_expected_by_itself};
-use rtgs_batches::submit_batch;
 use rtgs_book::{Answer, Command, Known, Refusal};
-use rtgs_desk::Desk;
+use rtgs_desk::{Desk, submit_batch};
 use rtgs_keeper::Keeper;
 use rtgs_money::Code;
 use rtgs_order_files::{OrderRow, RowReply};

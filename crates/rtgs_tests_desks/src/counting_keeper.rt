@@ -1,6 +1,5 @@
 //! A keeper that counts its commits where others can see it.
-use rtgs_book::{Change, Fault, Mark, Order, Posting};
-use rtgs_cores::Core;
+use rtgs_book::{Change, Core, Fault, Mark, Order, Posting};
 use rtgs_keeper::{CommitFault, Keeper};
 use rtgs_money::{BusinessDate, Code, Reference};
 use std::alloc::Global;

@@ -1,10 +1,9 @@
 //! A keeper that fails when a test wants it.
 ghost use Rattle.std.specs.Prelude.{◌≡◌, ◌⊎◌};
 
-use rtgs_book::{Change, Fault, Mark, Order, Posting};
-use rtgs_cores::Core;
+use crate::in_memory::MemoryKeeper;
+use rtgs_book::{Change, Core, Fault, Mark, Order, Posting};
 use rtgs_keeper::{CommitFault, Keeper};
-use rtgs_memory_keeper::MemoryKeeper;
 use rtgs_money::{BusinessDate, Code, Reference};
 use std::alloc::Global;
 
@@ -80,7 +79,7 @@ impl<K: Keeper> FailingKeeper<K> {
 
 impl<K: Keeper> Keeper for FailingKeeper<K> {
     ghost use Rattle.std.specs.Prelude.{◌⊎◌};
-    ghost use Rattle.rtgs_book.specs.declared.Fault.{Fault};
+    ghost use Rattle.rtgs_book.specs.declared.fault.Fault.{Fault};
 
     ghost content = { λ keeper. K.content keeper.kept };
 

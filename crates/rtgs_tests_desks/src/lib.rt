@@ -1,10 +1,11 @@
-//! What the tests of desks share: keepers that fail or count, and scripts, which say in words what a desk is given and
-//! what it answers. Only crates of trials stand on this crate.
+//! What the tests of desks share: the keeper in memory, keepers that fail or count, and scripts, which say in words
+//! what a desk is given and what it answers. Only crates of trials stand on this crate.
 #![tactic(auto)]
 
 mod batch_orders;
 mod counting_keeper;
 mod failing_keeper;
+mod in_memory;
 mod opened;
 mod readings;
 mod scripts;
@@ -13,6 +14,7 @@ mod silence;
 pub use crate::batch_orders::{orders, sent};
 pub use crate::counting_keeper::CountingKeeper;
 pub use crate::failing_keeper::{FailingKeeper, Trouble, failing};
+pub use crate::in_memory::MemoryKeeper;
 pub use crate::opened::{BANKS, begun, desk_over};
 pub use crate::readings::seen_of;
 pub use crate::scripts::{

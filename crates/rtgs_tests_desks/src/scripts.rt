@@ -3,8 +3,8 @@
 //! mark, the count and the cents of what was resolved after the command, if anything was. A line that is not understood
 //! fails the test.
 use rtgs_book::{Answer, Command, Refusal, Resolution, WholeAnswer};
+use rtgs_cli_arguments::CommandWords;
 use rtgs_desk::Desk;
-use rtgs_desk_requests::CommandWords;
 use rtgs_keeper::Keeper;
 use rtgs_money::{Amount, BusinessDate, Code, Reference};
 use std::alloc::Global;

@@ -1,9 +1,9 @@
 //! What the desk answers of accounts.
 ghost use Rattle.std.specs.Prelude.{◌≡◌, ◌≢◌, true, false, Err, IfOk, IfErr, slice_get};
 ghost use Rattle.std.specs.Option.{option_map};
-ghost use Rattle.rtgs_book.specs.declared.Book.{Book};
+ghost use Rattle.rtgs_book.specs.declared.book.Book.{Book};
 ghost use Rattle.rtgs_book.specs.Balance.{balance};
-ghost use Rattle.rtgs_cores.specs.Cores.{account_of};
+ghost use Rattle.rtgs_book.specs.cores.Cores.{account_of};
 ghost use Rattle.rtgs_desk.specs.Holding.{HasInMemory, Holds};
 ghost use Rattle.rtgs_desk.specs.Readings.{Tells, accounts_answer, reading_of};
 

@@ -1,16 +1,15 @@
 //! What the desk looks up in its store.
 ghost use Rattle.std.specs.Prelude.{◌≡◌, true, false, IfOk, IfErr};
-ghost use Rattle.rtgs_book.specs.declared.Book.{Book};
+ghost use Rattle.rtgs_book.specs.declared.book.Book.{Book};
 ghost use Rattle.rtgs_book.specs.Lookup.{order_named, posting_named};
-ghost use Rattle.rtgs_cores.specs.Cores.{found_for};
+ghost use Rattle.rtgs_book.specs.cores.Cores.{found_for};
 ghost use Rattle.rtgs_desk.specs.Holding.{Holds};
 ghost use Rattle.rtgs_desk.specs.LookUps.{LooksUp, refusal_of};
 ghost use Rattle.rtgs_desk.specs.Replies.{is_looked_up};
 ghost use Rattle.rtgs_statements.specs.Reads.{refused_by};
 
 use super::Desk;
-use rtgs_book::{Command, Fault, Order, Posting, Refusal};
-use rtgs_cores::Found;
+use rtgs_book::{Command, Fault, Found, Order, Posting, Refusal};
 use rtgs_keeper::Keeper;
 use rtgs_money::{Code, Reference};
 

@@ -1,5 +1,5 @@
 //! The same input in pieces.
-use rtgs_http_feeds::{BodyFeed, BodyStep, HeadFeed, HeadStep};
+use rtgs_http_requests::{BodyFeed, BodyStep, HeadFeed, HeadStep};
 use std::alloc::Global;
 use std::test::Fail;
 

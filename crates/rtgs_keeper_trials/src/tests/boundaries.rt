@@ -5,7 +5,7 @@ use super::memory::InMemory;
 use super::store::{Booked, Ended, Job, Store};
 use super::two_keepers::{end_in_one_book, make};
 use rtgs_book::{Answer, Command, Refusal};
-use rtgs_desk_requests::CommandWords;
+use rtgs_cli_arguments::CommandWords;
 use rtgs_money::BusinessDate;
 use rtgs_tests_desks::{Reply, command, desk_over, follows};
 use std::alloc::Global;

@@ -4,7 +4,7 @@ ghost use Rattle.std.specs.Prelude.{◌≡◌, false};
 
 use super::store::{Booked, Ended, Failing, Job, OverTables, Store, Task};
 use rtgs_book::{Book, Fault};
-use rtgs_stored_desk::create;
+use rtgs_book_file::stored_desk::create;
 use rtgs_tables::SqlKeeper;
 use sqlite::{Alter, Connection, Error, ErrorCode, Files, Options};
 use sqlite_disk::{Crash, Disk, Fuse, Memory};

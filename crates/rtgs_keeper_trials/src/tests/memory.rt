@@ -1,8 +1,7 @@
 //! A keeper in memory as a store, which may meet trouble at one of its calls.
 use super::store::{Booked, Ended, Failing, Job, Store};
 use rtgs_book::{Book, Fault};
-use rtgs_memory_keeper::MemoryKeeper;
-use rtgs_tests_desks::{FailingKeeper, Trouble};
+use rtgs_tests_desks::{FailingKeeper, MemoryKeeper, Trouble};
 use std::alloc::Global;
 use std::mem;
 use std::test::Fail;

@@ -4,8 +4,8 @@ ghost use Rattle.std.specs.List.{flat_map};
 ghost use Rattle.rtgs_book.specs.Queue.{queued_numbers};
 ghost use Rattle.rtgs_choices.specs.Settling.{state_rows};
 ghost use Rattle.rtgs_book.specs.declared.book.Book.{Book};
-ghost use Rattle.rtgs_cores.specs.Cores.{IsCoreOf};
-ghost use Rattle.rtgs_accounts.specs.Accounts.{code_of};
+ghost use Rattle.rtgs_book.specs.cores.Cores.{IsCoreOf};
+ghost use Rattle.rtgs_records.specs.accounts.Accounts.{code_of};
 ghost use Rattle.rtgs_ledger.specs.Closing.{IsClosable};
 ghost use Rattle.rtgs_records.specs.Held.{HasRoom};
 ghost use Rattle.rtgs_ledger.specs.Kept.{IsPreparedByItself, IsRefusedByItself};
@@ -17,7 +17,7 @@ use rtgs_book::{
 };
 use rtgs_choices::laws::{chosen_numbers, queued_are_numbered, rows_close, taken_are_chosen};
 use rtgs_money::BusinessDate;
-use rtgs_queues::laws::queues_are_of_the_waiting;
+use rtgs_records::queues::laws::queues_are_of_the_waiting;
 use std::alloc::{AllocError, Global};
 
 impl Ledger {

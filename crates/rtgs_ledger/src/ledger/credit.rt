@@ -1,7 +1,7 @@
 //! Setting a credit limit.
 ghost use Rattle.std.specs.Prelude.{◌≡◌, IfOk, IfErr, false};
 ghost use Rattle.rtgs_book.specs.declared.book.Book.{Book};
-ghost use Rattle.rtgs_cores.specs.Cores.{IsCoreOf};
+ghost use Rattle.rtgs_book.specs.cores.Cores.{IsCoreOf};
 ghost use Rattle.rtgs_records.specs.Held.{HasRoom};
 ghost use Rattle.rtgs_ledger.specs.Following.{FreesOrders};
 ghost use Rattle.rtgs_ledger.specs.Kept.{IsPreparedByItself, IsRefusedByItself};

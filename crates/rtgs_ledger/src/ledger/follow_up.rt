@@ -6,8 +6,8 @@ ghost use Rattle.rtgs_book.specs.Calm.{IsCalm};
 ghost use Rattle.rtgs_book.specs.Laws.{CommandFits};
 ghost use Rattle.rtgs_book.specs.Outcome.{is_done, resolution_of};
 ghost use Rattle.rtgs_book.specs.Step.{may_free};
-ghost use Rattle.rtgs_cores.specs.Cores.{IsCoreOf, found_for};
-ghost use Rattle.rtgs_cores.specs.Following.{core_after};
+ghost use Rattle.rtgs_book.specs.cores.Cores.{IsCoreOf, found_for};
+ghost use Rattle.rtgs_book.specs.cores.Following.{core_after};
 ghost use Rattle.rtgs_records.specs.Held.{HasRoom};
 ghost use Rattle.rtgs_ledger.specs.Following.{FreesOrders, SettlesOrders, Follows, IsNotFollowed};
 ghost use Rattle.rtgs_ledger.specs.Following.{day_after, has_moved, is_followed_by, joined, sets_no_balance};
@@ -16,18 +16,18 @@ ghost use Rattle.rtgs_ledger.specs.Kinds.{CanAnswer, CanAnswerByItself, is_of_th
 
 use super::Ledger;
 use super::resolution::rows_of;
-use rtgs_accounts::Accounts;
+use rtgs_book::cores::laws::cores_follow_changes;
 use rtgs_book::laws::greatest_exists;
 use rtgs_book::{
-    Account, Answer, Change, Command, Day, Phase, Refusal, Resolution, RowChange, Rows, WholeAnswer,
+    Account, Answer, Change, Command, Day, Found, Phase, Refusal, Resolution, RowChange, Rows,
+    WholeAnswer,
 };
 use rtgs_choices::laws::changes_join;
-use rtgs_cores::Found;
-use rtgs_cores::laws::cores_follow_changes;
 use rtgs_laws::laws::{
     new_credit_leaves_the_accounts, own_step_is_determined, own_step_keeps_ranges,
     own_step_keeps_soundness, quiet_changes_leave_calm,
 };
+use rtgs_records::Accounts;
 use std::alloc::{AllocError, Global};
 
 impl Ledger {

@@ -9,7 +9,7 @@ ghost use Rattle.rtgs_book.specs.Changes.{Leads};
 ghost use Rattle.rtgs_book.specs.Lookup.{credit_of};
 ghost use Rattle.rtgs_book.specs.Queue.{queue};
 ghost use Rattle.rtgs_book.specs.Soundness.{IsSound};
-ghost use Rattle.rtgs_cores.specs.Cores.{IsCoreOf};
+ghost use Rattle.rtgs_book.specs.cores.Cores.{IsCoreOf};
 ghost use Rattle.rtgs_laws.specs.Quiet.{FreesNothing, brings, queued_to, value_of};
 ghost use Rattle.rtgs_ledger.specs.Freeing.{GivesNothing, IsLast, IsShort};
 
@@ -17,7 +17,7 @@ use super::Ledger;
 use rtgs_book::{Change, Order, RowChange};
 use rtgs_laws::laws::new_credit_leaves_the_accounts;
 use rtgs_money::{Cents, Code, Credit};
-use rtgs_queues::laws::{numbers_lead_to_orders, queues_are_of_the_waiting, queues_rise};
+use rtgs_records::queues::laws::{numbers_lead_to_orders, queues_are_of_the_waiting, queues_rise};
 
 impl Ledger {
     /// Whether the rows may let orders settle that could not before. Each row is judged by itself, whatever command it

@@ -3,7 +3,7 @@ ghost use Rattle.std.specs.Prelude.{◌≡◌, ◌++◌, ◌∷◌, [], map, fil
 ghost use Rattle.rtgs_book.specs.declared.order.Order.{Order};
 ghost use Rattle.rtgs_book.specs.Commands.{is_due};
 ghost use Rattle.rtgs_book.specs.declared.book.Book.{Book};
-ghost use Rattle.rtgs_cores.specs.Cores.{IsCoreOf};
+ghost use Rattle.rtgs_book.specs.cores.Cores.{IsCoreOf};
 ghost use Rattle.rtgs_records.specs.Held.{HasRoom};
 ghost use Rattle.rtgs_ledger.specs.Following.{FreesOrders};
 ghost use Rattle.rtgs_ledger.specs.Kept.{IsPreparedByItself, IsRefusedByItself};
@@ -14,7 +14,7 @@ use rtgs_book::{
     Answer, Change, Command, Day, Known, Order, Phase, Refusal, RowChange, Rows, laws,
 };
 use rtgs_money::BusinessDate;
-use rtgs_queues::laws::numbers_lead_to_orders;
+use rtgs_records::queues::laws::numbers_lead_to_orders;
 use std::alloc::{AllocError, Global};
 
 impl Ledger {

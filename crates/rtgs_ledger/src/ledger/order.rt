@@ -7,13 +7,13 @@ ghost use Rattle.rtgs_money.specs.Amounts.{IsAmount};
 ghost use Rattle.rtgs_book.specs.Balance.{floor_at};
 ghost use Rattle.rtgs_book.specs.Books.{is_empty};
 ghost use Rattle.rtgs_book.specs.Queue.{queued_numbers};
-ghost use Rattle.rtgs_accounts.specs.Accounts.{code_of};
+ghost use Rattle.rtgs_records.specs.accounts.Accounts.{code_of};
 ghost use Rattle.rtgs_book.specs.Commands.{settles_at_once, settles_now, is_same_due, is_due_on_a_weekend};
 ghost use Rattle.rtgs_book.specs.declared.limits.TheConstants.{LARGEST_NUMBER};
-ghost use Rattle.rtgs_accounts.specs.Accounts.{is_of};
+ghost use Rattle.rtgs_records.specs.accounts.Accounts.{is_of};
 ghost use Rattle.rtgs_book.specs.declared.book.Book.{Book};
 ghost use Rattle.rtgs_book.specs.Lookup.{order_named};
-ghost use Rattle.rtgs_cores.specs.Cores.{IsCoreOf};
+ghost use Rattle.rtgs_book.specs.cores.Cores.{IsCoreOf};
 ghost use Rattle.rtgs_records.specs.Held.{HasRoom};
 ghost use Rattle.rtgs_ledger.specs.Following.{FreesOrders};
 ghost use Rattle.rtgs_ledger.specs.Kept.{IsPreparedByItself, IsRefusedByItself};
@@ -21,14 +21,14 @@ ghost use Rattle.rtgs_ledger.specs.Kinds.{CanAnswerByItself, is_of_the_store};
 ghost use Rattle.rtgs_ledger.specs.Ordering.{IsTaken, IsDueRefused, is_too_early, waiting_answer};
 
 use super::Ledger;
-use rtgs_accounts::sums::{with_less, with_more};
 use rtgs_book::{
     Account, Answer, Change, Command, Known, LARGEST_NUMBER, LONGEST_QUEUE, Mark, Order,
     OrderState, Refusal, RowChange, Rows, laws,
 };
 use rtgs_money::{Amount, BusinessDate, Cents, Code, Reference};
-use rtgs_queues::laws::queues_are_of_the_waiting;
 use rtgs_records::Records;
+use rtgs_records::accounts::sums::{with_less, with_more};
+use rtgs_records::queues::laws::queues_are_of_the_waiting;
 use std::alloc::{AllocError, Global};
 
 impl Ledger {

@@ -2,18 +2,18 @@
 ghost use Rattle.std.specs.Prelude.{◌≡◌, IfOk, IfErr, false};
 ghost use Rattle.rtgs_book.specs.declared.book.Book.{Book};
 ghost use Rattle.rtgs_book.specs.Lookup.{posting_named};
-ghost use Rattle.rtgs_cores.specs.Cores.{IsCoreOf};
+ghost use Rattle.rtgs_book.specs.cores.Cores.{IsCoreOf};
 ghost use Rattle.rtgs_records.specs.Held.{HasRoom};
 ghost use Rattle.rtgs_ledger.specs.Following.{FreesOrders};
 ghost use Rattle.rtgs_ledger.specs.Kept.{IsPreparedByItself, IsRefusedByItself};
 ghost use Rattle.rtgs_ledger.specs.Kinds.{CanAnswerByItself, is_of_the_store};
 
 use super::Ledger;
-use rtgs_accounts::sums::moved;
 use rtgs_book::{
     Answer, Change, Command, Known, LARGEST_NUMBER, Posting, Refusal, RowChange, Rows, laws,
 };
 use rtgs_money::{Code, PostingAmount, Reference};
+use rtgs_records::accounts::sums::moved;
 
 impl Ledger {
     /// A posting is added, with the next number.

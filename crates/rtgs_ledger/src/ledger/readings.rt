@@ -7,15 +7,15 @@ ghost use Rattle.rtgs_book.specs.Lookup.{accounts};
 ghost use Rattle.rtgs_book.specs.Lookup as lookup;
 ghost use Rattle.rtgs_book.specs.Queue.{queue, queued_among};
 ghost use Rattle.rtgs_book.specs.Soundness.{IsSound};
-ghost use Rattle.rtgs_cores.specs.Cores.{IsCoreOf};
-ghost use Rattle.rtgs_accounts.specs.Accounts.{participant_of};
+ghost use Rattle.rtgs_book.specs.cores.Cores.{IsCoreOf};
+ghost use Rattle.rtgs_records.specs.accounts.Accounts.{participant_of};
 ghost use Rattle.rtgs_ledger.specs.Alone.{book_of_participants};
 ghost use Rattle.rtgs_ledger.specs.Keys.{code_under};
 
 use super::Ledger;
 use rtgs_book::{Account, Day, Order};
 use rtgs_money::{BusinessDate, Code, KeyDigest};
-use rtgs_queues::laws::queues_are_of_the_waiting;
+use rtgs_records::queues::laws::queues_are_of_the_waiting;
 use std::alloc::AllocError;
 
 impl Ledger {

@@ -4,10 +4,10 @@ ghost use Rattle.std.specs.List.{AllByRecursion};
 ghost use Rattle.rtgs_book.specs.declared.limits.TheConstants.{MOST_QUEUED};
 ghost use Rattle.rtgs_book.specs.declared.account.Account.{Account as AccountSpec};
 ghost use Rattle.rtgs_book.specs.declared.order.Order.{Order};
-ghost use Rattle.rtgs_accounts.specs.Accounts.{code_of};
+ghost use Rattle.rtgs_records.specs.accounts.Accounts.{code_of};
 ghost use Rattle.rtgs_book.specs.declared.book.Book.{Book};
 ghost use Rattle.rtgs_book.specs.Calm.{IsCalm};
-ghost use Rattle.rtgs_cores.specs.Cores.{IsCoreOf};
+ghost use Rattle.rtgs_book.specs.cores.Cores.{IsCoreOf};
 ghost use Rattle.rtgs_records.specs.Held.{HasRoom};
 ghost use Rattle.rtgs_ledger.specs.Following.{SettlesOrders};
 ghost use Rattle.rtgs_ledger.specs.Kept.{IsPreparedByItself, IsRefusedByItself};
@@ -17,13 +17,13 @@ ghost use Rattle.rtgs_ledger.specs.Resolving.{AreGreatest, AreSmall, after_order
 
 use super::Ledger;
 use super::follow_up::is_automatic;
-use rtgs_accounts::Accounts;
 use rtgs_book::{
     Account, Answer, Change, Command, Mark, Order, OrderState, Refusal, RowChange, Rows, laws,
 };
 use rtgs_choices::laws::{chosen_numbers, rows_settle, taken_are_chosen};
 use rtgs_gridlock::OutOfMemory;
 use rtgs_money::BusinessDate;
+use rtgs_records::Accounts;
 use std::alloc::{AllocError, Global};
 
 impl Ledger {

@@ -5,7 +5,7 @@ ghost use Rattle.rtgs_book.specs.Lookup.{accounts};
 ghost use Rattle.rtgs_choices.specs.ByIndex.{by_code};
 ghost use Rattle.rtgs_ledger.specs.Choosing.{payment_in, payments_in, positions_in, queues_in, taken_from};
 ghost use Rattle.rtgs_book.specs.declared.book.Book.{Book};
-ghost use Rattle.rtgs_cores.specs.Cores.{IsCoreOf};
+ghost use Rattle.rtgs_book.specs.cores.Cores.{IsCoreOf};
 ghost use Rattle.rtgs_ledger.specs.Resolving.{AreGreatest, CanResolve};
 
 use super::Ledger;
@@ -13,7 +13,7 @@ use rtgs_book::{MOST_QUEUED, Order};
 use rtgs_choices::laws;
 use rtgs_gridlock::{OutOfMemory, Payment, Position, Positions, Queues, Workspace, greatest};
 use rtgs_money::Code;
-use rtgs_queues::laws::queues_are_of_the_waiting;
+use rtgs_records::queues::laws::queues_are_of_the_waiting;
 use std::alloc::AllocError;
 
 impl Ledger {

@@ -2,7 +2,7 @@
 ghost use Rattle.std.specs.Prelude.{◌≡◌, IfOk, IfErr, false};
 ghost use Rattle.rtgs_book.specs.declared.book.Book.{Book};
 ghost use Rattle.rtgs_book.specs.Lookup.{order_named};
-ghost use Rattle.rtgs_cores.specs.Cores.{IsCoreOf};
+ghost use Rattle.rtgs_book.specs.cores.Cores.{IsCoreOf};
 ghost use Rattle.rtgs_records.specs.Held.{HasRoom};
 ghost use Rattle.rtgs_ledger.specs.Following.{FreesOrders};
 ghost use Rattle.rtgs_ledger.specs.Kept.{IsPreparedByItself, IsRefusedByItself};
@@ -13,7 +13,7 @@ use rtgs_book::{
     Answer, Change, Command, Known, Order, OrderState, Refusal, RowChange, Rows, laws,
 };
 use rtgs_money::{Code, Reference};
-use rtgs_queues::laws::numbers_lead_to_orders;
+use rtgs_records::queues::laws::numbers_lead_to_orders;
 
 impl Ledger {
     /// An order that is queued or held is taken back by its sender.

@@ -1,6 +1,6 @@
 //! Rows that are added.
 ghost use Rattle.std.specs.Prelude.{◌≡◌, OnOk};
-ghost use Rattle.rtgs_book.specs.declared.RowChange.TheVariants as change;
+ghost use Rattle.rtgs_book.specs.declared.change.RowChange.TheVariants as change;
 ghost use Rattle.rtgs_rows.specs.Content.{Content, IsInOrder, with_change};
 ghost use Rattle.rtgs_money.specs.Date.{IsBusinessDate};
 ghost use Rattle.rtgs_rows.specs.Fitting.{FitsParticipant, FitsPosting, FitsUndated, FitsOrder, FitsMark};

@@ -1,6 +1,6 @@
 //! Columns that are set.
 ghost use Rattle.std.specs.Prelude.{◌≡◌, OnOk};
-ghost use Rattle.rtgs_book.specs.declared.RowChange.TheVariants as change;
+ghost use Rattle.rtgs_book.specs.declared.change.RowChange.TheVariants as change;
 ghost use Rattle.rtgs_rows.specs.Content.{Content, IsInOrder, with_change};
 ghost use Rattle.rtgs_money.specs.Amounts.{IsCredit};
 ghost use Rattle.rtgs_money.specs.Date.{IsBusinessDate};

@@ -6,11 +6,10 @@ mod sessions;
 
 use super::scripts::desks::desk_after;
 use super::setting::code;
-use rtgs_batches::submit_batch;
-use rtgs_desk::Desk;
+use rtgs_desk::{Desk, submit_batch};
 use rtgs_keeper::Keeper;
-use rtgs_memory_keeper::MemoryKeeper;
 use rtgs_order_files::{BatchResult, OrderRow, read_orders, write_results};
+use rtgs_tests_desks::MemoryKeeper;
 use std::alloc::Global;
 use std::test::Fail;
 

@@ -8,7 +8,7 @@ use super::setting::{alone, desk_over};
 use rtgs_book::{Answer, Refusal};
 use rtgs_desk::Desk;
 use rtgs_keeper::Keeper;
-use rtgs_memory_keeper::MemoryKeeper;
+use rtgs_tests_desks::MemoryKeeper;
 use std::alloc::Global;
 use std::test::Fail;
 

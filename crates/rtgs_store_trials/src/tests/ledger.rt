@@ -4,10 +4,9 @@ mod following;
 use super::scripts::command;
 use super::scripts::ledgers::{funded_ledger_follows, new_ledger, new_ledger_follows};
 use super::setting::change;
-use rtgs_book::{Answer, Day, Fault, Phase, Refusal, RowChange};
-use rtgs_cores::Found;
+use rtgs_book::{Answer, Day, Fault, Found, Phase, Refusal, RowChange};
 use rtgs_keeper::Keeper;
-use rtgs_memory_keeper::MemoryKeeper;
+use rtgs_tests_desks::MemoryKeeper;
 use std::alloc::Global;
 use std::test::Fail;
 

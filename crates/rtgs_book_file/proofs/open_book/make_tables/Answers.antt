@@ -1,7 +1,7 @@
 use Rattle.std.proofs.Common.{◌≡◌, ◌∙◌, Result, Err, ap, sym, subst}
 use Rattle.sqlite.specs.State.{State, Opens}
 use Rattle.rtgs_tables.specs.Building.{IsBlank}
-use Rattle.rtgs_stored_desk.specs.Stored.{HasNoSchema}
+use Rattle.rtgs_book_file.specs.stored_desk.Stored.{HasNoSchema}
 use Rattle.rtgs_book_file.specs.Closed.{LeavesClosed}
 use Rattle.rtgs_book_file.proofs.open_book.make_tables.Goals as goal
 

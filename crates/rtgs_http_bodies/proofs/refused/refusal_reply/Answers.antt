@@ -2,8 +2,8 @@ use Rattle.std.proofs.Common.{◌∙◌, ap}
 use Rattle.std.proofs.lemmas.Result.{IfOk-weaker}
 use Rattle.rtgs_book.specs.Refusals.{refusal_kind_of}
 use Rattle.rtgs_http_bodies.proofs.Undetailed.{undetailed}
-use Rattle.rtgs_http_replies.specs.Kinds.{kind_status}
-use Rattle.rtgs_http_replies.specs.Messages.{json_message}
+use Rattle.rtgs_http_bodies.specs.replies.Kinds.{kind_status}
+use Rattle.rtgs_http_bodies.specs.replies.Messages.{json_message}
 use Rattle.rtgs_http_bodies.proofs.refused.refusal_reply.Goals as goal
 
 pub returns-in_default-clause-replied : goal.returns-in_default-clause-replied

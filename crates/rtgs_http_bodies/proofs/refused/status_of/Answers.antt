@@ -1,6 +1,6 @@
 use Rattle.std.proofs.Common.{◌≡◌, subst, rules}
 use Rattle.http.specs.StatusCode.{IsStatusCode}
-use Rattle.rtgs_http_replies.specs.Kinds.{kind_status}
+use Rattle.rtgs_http_bodies.specs.replies.Kinds.{kind_status}
 use Rattle.rtgs_http_bodies.proofs.InRange.{status_in_range}
 use Rattle.rtgs_http_bodies.proofs.refused.status_of.Goals as goal
 

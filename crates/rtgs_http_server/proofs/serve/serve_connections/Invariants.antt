@@ -1,5 +1,5 @@
 use Rattle.std.proofs.Common.{◌≡◌, ◌+◌, true}
-use Rattle.rtgs_book.specs.declared.Book.{Book}
+use Rattle.rtgs_book.specs.declared.book.Book.{Book}
 use Rattle.rtgs_desk.specs.Holding.{Holds}
 use Rattle.rtgs_http_server.specs.Requests.{WorksForAll}
 use Rattle.rtgs_http_server.proofs.serve.serve_connections.Given as goal

@@ -2,7 +2,7 @@
 use super::super::is_same;
 use super::super::test_desk::TestDesk;
 use rtgs_book::Refusal;
-use rtgs_desk_texts::{write_report, write_statement};
+use rtgs_http_bodies::{write_report, write_statement};
 use rtgs_money::{BusinessDate, Code};
 use rtgs_statements::BookTextFault;
 use rtgs_tests_desks::Trouble;

@@ -1,8 +1,7 @@
 //! Replies that no request of a test leads to: of a book whose numbers are used up, and of an answer that is lost.
 use super::super::test_desk::whole;
 use rtgs_book::Refusal;
-use rtgs_http_bodies::refusal_reply;
-use rtgs_http_replies::Reply;
+use rtgs_http_bodies::{Reply, refusal_reply};
 use std::test::Fail;
 
 #[test]

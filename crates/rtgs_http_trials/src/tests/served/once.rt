@@ -3,7 +3,7 @@ use super::super::GOOD;
 use super::super::requests::spelled;
 use super::super::test_desk::TestDesk;
 use super::counted_reader::CountedReader;
-use rtgs_http_banks::Served;
+use rtgs_http_server::Served;
 use std::alloc::Global;
 use std::io;
 use std::io::{ErrorKind, Read, Write};

@@ -4,7 +4,7 @@ use super::super::requests::WrittenRequest;
 use super::super::test_desk::{TestDesk, follows};
 use super::counted_reader::CountedReader;
 use super::lengths::spaced;
-use rtgs_http_banks::Served;
+use rtgs_http_server::Served;
 use std::alloc::Global;
 use std::io::Read;
 use std::test::Fail;

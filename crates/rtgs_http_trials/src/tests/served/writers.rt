@@ -2,7 +2,7 @@
 use super::super::GOOD;
 use super::super::test_desk::TestDesk;
 use super::cut_writer::{CutWriter, MOST};
-use rtgs_http_banks::Served;
+use rtgs_http_server::Served;
 use std::alloc::Global;
 use std::test::Fail;
 

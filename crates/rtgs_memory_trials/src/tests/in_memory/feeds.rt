@@ -1,6 +1,6 @@
 //! Feeds of a head and of a body, which have all their room from the beginning: they take pieces without memory.
 use super::super::scarce::{Held, had_none, in_a_process, is_limited, is_none_left};
-use rtgs_http_feeds::{BodyFeed, BodyStep, HeadFeed, HeadStep};
+use rtgs_http_requests::{BodyFeed, BodyStep, HeadFeed, HeadStep};
 use std::alloc::Global;
 use std::test::Fail;
 

@@ -5,10 +5,10 @@ use super::super::scarce::{
     ANSWER_LOST, Held, OPERATOR, TakingKeeper, in_a_process, is_limited, request_of, same,
 };
 use rtgs_desk::Desk;
-use rtgs_http_banks::serve_one;
+use rtgs_http_server::serve_one;
 use rtgs_keeper::Keeper;
-use rtgs_memory_keeper::MemoryKeeper;
 use rtgs_money::Key;
+use rtgs_tests_desks::MemoryKeeper;
 use std::alloc::Global;
 use std::cell::Cell;
 use std::test::Fail;

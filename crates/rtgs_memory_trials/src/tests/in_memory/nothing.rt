@@ -4,14 +4,13 @@ use super::super::scarce::setting::{
     pays_on,
 };
 use super::super::scarce::{Held, had_none, in_a_process, is_limited, is_none_left};
-use rtgs_book::Command;
-use rtgs_cores::Found;
+use rtgs_book::{Command, Found};
 use rtgs_gridlock::{Payment, Position, Positions, Queues, Workspace, greatest};
-use rtgs_http_replies::Reply;
+use rtgs_http_bodies::Reply;
 use rtgs_keeper::Keeper;
 use rtgs_ledger::Ledger;
-use rtgs_memory_keeper::MemoryKeeper;
 use rtgs_output::WriterFailed;
+use rtgs_tests_desks::MemoryKeeper;
 use std::alloc::Global;
 use std::process::Abort;
 use std::test::Fail;

@@ -2,9 +2,8 @@
 use super::super::scarce::setting::{code, seen_of};
 use super::super::scarce::{Held, Store, in_a_process, is_limited, orders_desk, same};
 use super::over_sql::OverSql;
-use rtgs_batches::submit_batch;
 use rtgs_book::Refusal;
-use rtgs_desk::Desk;
+use rtgs_desk::{Desk, submit_batch};
 use rtgs_keeper::Keeper;
 use rtgs_order_files::{BatchResult, OrderRow, read_orders, write_results};
 use std::alloc::Global;

@@ -2,9 +2,8 @@
 use super::call::{Call, Outcome};
 use super::setting::{desk_after, desk_over, opens, posts, seen_of};
 use super::store::Store;
-use rtgs_batches::submit_batch;
 use rtgs_book::Refusal;
-use rtgs_desk::Desk;
+use rtgs_desk::{Desk, submit_batch};
 use rtgs_keeper::Keeper;
 use rtgs_money::Code;
 use rtgs_order_files::{BatchResult, OrderRow, RowReply};

@@ -2,10 +2,9 @@
 use super::call::{Call, Outcome};
 use super::setting::{code, desk_after, desk_over, seen_of};
 use super::store::Store;
-use rtgs_batches::submit_batch;
 use rtgs_book::Command;
-use rtgs_desk::Desk;
-use rtgs_http_banks::{Served, serve_one};
+use rtgs_desk::{Desk, submit_batch};
+use rtgs_http_server::{Served, serve_one};
 use rtgs_keeper::Keeper;
 use rtgs_money::KeyDigest;
 use rtgs_order_files::OrderRow;

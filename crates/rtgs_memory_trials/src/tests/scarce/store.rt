@@ -1,5 +1,5 @@
 //! Where desks keep their books.
-use rtgs_memory_keeper::MemoryKeeper;
+use rtgs_tests_desks::MemoryKeeper;
 use std::alloc::Global;
 use std::test::Fail;
 

@@ -1,7 +1,6 @@
 //! A keeper behind whose commit there is no memory.
 use super::held::Held;
-use rtgs_book::{Change, Fault, Mark, Order, Posting};
-use rtgs_cores::Core;
+use rtgs_book::{Change, Core, Fault, Mark, Order, Posting};
 use rtgs_keeper::{CommitFault, Keeper};
 use rtgs_money::{BusinessDate, Code, Reference};
 use std::alloc::Global;

@@ -1,8 +1,8 @@
 use Rattle.std.proofs.Common.{◌≡◌, ◌∙◌, None, Some, length, take, sym, subst, arith}
 use Rattle.std.proofs.lemmas.List.{take_all}
 use Rattle.rtgs_book.specs.Run.{Run}
-use Rattle.rtgs_batches.specs.Batches.{orders_of, StopsAfter}
-use Rattle.rtgs_repeats.specs.Batch.{MayComeAgain}
+use Rattle.rtgs_desk.specs.batches.Batches.{orders_of, StopsAfter}
+use Rattle.rtgs_laws.specs.repeats.Batch.{MayComeAgain}
 use Rattle.rtgs_promises.proofs.Batches.{none_full}
 use Rattle.rtgs_promises.proofs.desks.send_a_batch_twice.Goals as goal
 

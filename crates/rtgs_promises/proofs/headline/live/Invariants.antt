@@ -2,7 +2,7 @@ use Rattle.std.proofs.Common.{◌≡◌, ◌≤◌, length, map, take, vec_capac
 use Rattle.sqlite.specs.Held.{state}
 use Rattle.sqlite.specs.State.{HasCleanDisk}
 use Rattle.rtgs_desk.specs.Holding.{Holds}
-use Rattle.rtgs_stored_desk.specs.Stored.{AreTablesOf}
+use Rattle.rtgs_book_file.specs.stored_desk.Stored.{AreTablesOf}
 use Rattle.rtgs_tables.specs.contracts.sql_keeper.SqlKeeperKeeper.TheImpl as keeper
 use Rattle.rtgs_promises.proofs.Lives.{SoFar}
 use Rattle.rtgs_promises.proofs.headline.live.Given as goal

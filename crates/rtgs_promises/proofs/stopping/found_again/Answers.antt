@@ -1,5 +1,5 @@
 use Rattle.std.proofs.Common.{◌∙◌, sym, subst}
-use Rattle.rtgs_stored_desk.specs.Stored.{AreTablesOf}
+use Rattle.rtgs_book_file.specs.stored_desk.Stored.{AreTablesOf}
 use Rattle.rtgs_promises.proofs.stopping.found_again.Goals as goal
 
 pub returns-in-Ok-opened-clause-found : goal.returns-in-Ok-opened-clause-found

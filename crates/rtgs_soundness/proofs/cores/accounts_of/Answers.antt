@@ -6,8 +6,8 @@ use Rattle.std.specs.Int.{w64}
 use Rattle.std.specs.BTreeMap.{get}
 use Rattle.std.specs.Ordering.{nat_cmp}
 use Rattle.std.specs.Cmp.Lexicographic.{slice_cmp}
-use Rattle.rtgs_book.specs.declared.Participant.{Participant}
-use Rattle.rtgs_cores.specs.Cores.{account_of}
+use Rattle.rtgs_book.specs.declared.participant.Participant.{Participant}
+use Rattle.rtgs_book.specs.cores.Cores.{account_of}
 use Rattle.rtgs_soundness.proofs.Accounts.{has_balance, is_account}
 use Rattle.rtgs_soundness.proofs.cores.accounts_of.Goals as goal
 

@@ -1,5 +1,5 @@
 use Rattle.std.proofs.Common.{◌≡◌, ◌≤◌, map, take, length, vec_capacity}
-use Rattle.rtgs_cores.specs.Cores.{account_of}
+use Rattle.rtgs_book.specs.cores.Cores.{account_of}
 use Rattle.rtgs_soundness.proofs.cores.accounts_of.Given as goal
 
 -- the accounts of the participants so far, and room for the rest

@@ -1,10 +1,10 @@
 use Rattle.std.proofs.Common.{◌∙◌, ◌+◌, ◌≤◌, filter, ap, sym, subst}
 use Rattle.std.proofs.lemmas.List.{length-map}
-use Rattle.rtgs_book.specs.declared.Mark.{Mark}
-use Rattle.rtgs_book.specs.declared.Order.{Order}
-use Rattle.rtgs_book.specs.declared.Posting.{Posting}
+use Rattle.rtgs_book.specs.declared.mark.Mark.{Mark}
+use Rattle.rtgs_book.specs.declared.order.Order.{Order}
+use Rattle.rtgs_book.specs.declared.posting.Posting.{Posting}
 use Rattle.rtgs_book.specs.declared.limits.TheConstants.{LARGEST_NUMBER}
-use Rattle.rtgs_cores.specs.Cores.{core_of}
+use Rattle.rtgs_book.specs.cores.Cores.{core_of}
 use Rattle.rtgs_book.specs.Books.{is_waiting}
 use Rattle.rtgs_soundness.proofs.cores.core_of.Goals as goal
 

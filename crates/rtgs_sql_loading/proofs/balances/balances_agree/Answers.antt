@@ -1,5 +1,5 @@
 use Rattle.std.proofs.Common.{◌≡◌, Bool, true, ◌↔◌, lit<, sym, subst}
-use Rattle.rtgs_book.specs.declared.Rule.TheVariants.{OrderNumbers, PostingNumbers}
+use Rattle.rtgs_book.specs.declared.rule.Rule.TheVariants.{OrderNumbers, PostingNumbers}
 use Rattle.rtgs_rows.specs.Keeping.{AreBalances}
 use Rattle.rtgs_sql_loading.proofs.Judging.{stored_agree}
 use Rattle.rtgs_sql_loading.proofs.balances.balances_agree.Goals as goal

@@ -1,7 +1,7 @@
 use Rattle.std.proofs.Common.{IfErr, rules, subst, subst₂}
 use Rattle.sqlite_catalog.specs.Listing.{IsSound}
 use Rattle.sqlite.specs.Held.{state}
-use Rattle.rtgs_book.specs.declared.Fault.TheVariants.{StoreFault}
+use Rattle.rtgs_book.specs.declared.fault.Fault.TheVariants.{StoreFault}
 use Rattle.rtgs_rows.specs.Tables.{IsVersion, schema_in}
 use Rattle.rtgs_sql_loading.specs.Accounts.{ExplainsRead}
 use Rattle.rtgs_sql_loading.proofs.Judging.{judged_book, judged_of, unread, unread_of, answered}

@@ -1,5 +1,5 @@
 use Rattle.std.proofs.Common.{◌<◌, ◌≤◌, drop, length, eqb-true, eq-eqb, true≢false, refl, sym, subst, ◌∙◌, arith}
-use Rattle.rtgs_book.specs.declared.Order.{Order}
+use Rattle.rtgs_book.specs.declared.order.Order.{Order}
 use Rattle.rtgs_sql_loading.specs.Joining.{Takes, TakesNone}
 use Rattle.rtgs_sql_loading.proofs.Joining.{begun, one_more, lacking, all_joined, left_over}
 use Rattle.rtgs_sql_loading.proofs.orders.join.Goals as goal

@@ -1,7 +1,7 @@
 use Rattle.std.proofs.Common.{[], ◌∷◌, nat_lt, option_map, ap, sym, subst}
 use Rattle.sqlite.specs.Held.{state}
 use Rattle.sqlite.specs.Values.{bound_value}
-use Rattle.rtgs_book.specs.declared.Order.{Order}
+use Rattle.rtgs_book.specs.declared.order.Order.{Order}
 use Rattle.rtgs_rows.specs.Dues.{without_due}
 use Rattle.rtgs_rows.specs.Fitting.{FitsOrder}
 use Rattle.rtgs_rows.specs.TableRecords.{order_records}

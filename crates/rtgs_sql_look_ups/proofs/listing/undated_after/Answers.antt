@@ -2,11 +2,11 @@ use Rattle.std.proofs.Common.{[], ◌∷◌, ◌==◌, option_map, arith, ap, sy
 use Rattle.sqlite.specs.Held.{state}
 use Rattle.sqlite.specs.Values.{bound_value, or_null}
 use Rattle.sqlite.specs.declared.types.Value.TheVariants.{Text}
-use Rattle.rtgs_book.specs.declared.Order.{Order}
+use Rattle.rtgs_book.specs.declared.order.Order.{Order}
 use Rattle.rtgs_rows.specs.Dues.{without_due}
 use Rattle.rtgs_rows.specs.Fitting.{FitsOrder}
 use Rattle.rtgs_rows.specs.TableRecords.{order_records}
-use Rattle.rtgs_cores.specs.Nexts.{order_after, is_order_after}
+use Rattle.rtgs_book.specs.cores.Nexts.{order_after, is_order_after}
 use Rattle.rtgs_sql_look_ups.specs.Finding.{order_after_tests, ShowsFirst}
 use Rattle.rtgs_sql_look_ups.proofs.FindingTexts.{order_after_asks}
 use Rattle.rtgs_sql_look_ups.proofs.FindingLemmas.{fits_found}

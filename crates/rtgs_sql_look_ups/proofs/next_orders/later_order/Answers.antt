@@ -1,6 +1,6 @@
 use Rattle.std.proofs.Common.{◌≡◌, ◌∙◌}
 use Rattle.std.proofs.lemmas.Result.{IfOk-weaker}
-use Rattle.rtgs_cores.specs.Nexts.{order_after}
+use Rattle.rtgs_book.specs.cores.Nexts.{order_after}
 use Rattle.rtgs_sql_look_ups.proofs.FindingLemmas.{look_then, was_clean, holds_after}
 use Rattle.rtgs_sql_look_ups.proofs.SkippingLemmas.{moved}
 use Rattle.rtgs_sql_look_ups.proofs.next_orders.later_order.Goals as goal

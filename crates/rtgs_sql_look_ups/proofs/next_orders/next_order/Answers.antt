@@ -1,6 +1,6 @@
 use Rattle.std.proofs.Common.{◌==◌, sym, ◌∙◌, arith}
-use Rattle.rtgs_book.specs.declared.Order.{Order}
-use Rattle.rtgs_cores.specs.Nexts.{order_after}
+use Rattle.rtgs_book.specs.declared.order.Order.{Order}
+use Rattle.rtgs_book.specs.cores.Nexts.{order_after}
 use Rattle.rtgs_sql_look_ups.proofs.FindingLemmas.{look_then, was_clean, holds_after}
 use Rattle.rtgs_sql_look_ups.proofs.SeekingLemmas.{none_past}
 use Rattle.rtgs_sql_look_ups.proofs.SkippingLemmas.{found_at_once, not_found}

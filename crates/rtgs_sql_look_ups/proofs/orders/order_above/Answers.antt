@@ -1,5 +1,5 @@
 use Rattle.std.proofs.Common.{nat_lt}
-use Rattle.rtgs_book.specs.declared.Order.{Order}
+use Rattle.rtgs_book.specs.declared.order.Order.{Order}
 use Rattle.rtgs_sql_look_ups.proofs.FindingLemmas.{look_then, was_clean, holds_after}
 use Rattle.rtgs_sql_look_ups.proofs.orders.order_above.Goals as goal
 

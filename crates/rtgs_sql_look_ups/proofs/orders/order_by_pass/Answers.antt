@@ -1,4 +1,4 @@
-use Rattle.rtgs_cores.specs.Nexts.{order_after, is_order_after}
+use Rattle.rtgs_book.specs.cores.Nexts.{order_after, is_order_after}
 use Rattle.rtgs_sql_look_ups.proofs.FindingLemmas.{look_then, was_clean, holds_after}
 use Rattle.rtgs_sql_look_ups.proofs.orders.order_by_pass.Goals as goal
 

@@ -1,6 +1,6 @@
 use Rattle.std.proofs.Common.{◌≡◌, Option, IfOk, refl, sym, subst, ◌∙◌}
 use Rattle.std.specs.List.{find}
-use Rattle.rtgs_book.specs.declared.Order.{Order}
+use Rattle.rtgs_book.specs.declared.order.Order.{Order}
 use Rattle.rtgs_sql_look_ups.proofs.DueLemmas.{joined}
 use Rattle.rtgs_sql_look_ups.proofs.orders.with_due.Goals as goal
 

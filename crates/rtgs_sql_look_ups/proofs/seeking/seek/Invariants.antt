@@ -1,7 +1,7 @@
 use Rattle.std.proofs.Common.{◌≡◌, ℕ, ◌+◌, ◌<◌, ◌≤◌, ◌^◌, Ok}
-use Rattle.rtgs_book.specs.declared.Book.{Book}
+use Rattle.rtgs_book.specs.declared.book.Book.{Book}
 use Rattle.rtgs_book.specs.declared.limits.TheConstants.{LARGEST_NUMBER}
-use Rattle.rtgs_cores.specs.Nexts.{AreListed}
+use Rattle.rtgs_book.specs.cores.Nexts.{AreListed}
 use Rattle.rtgs_rows.specs.Keeping.{HoldsBook}
 use Rattle.rtgs_sql_look_ups.specs.Finding.{IsLook}
 use Rattle.rtgs_sql_look_ups.specs.Seeking.{IsEarly, TurnsBetween}

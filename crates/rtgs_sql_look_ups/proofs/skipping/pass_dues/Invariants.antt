@@ -1,5 +1,5 @@
 use Rattle.std.proofs.Common.{ℕ, Ok}
-use Rattle.rtgs_book.specs.declared.Book.{Book}
+use Rattle.rtgs_book.specs.declared.book.Book.{Book}
 use Rattle.rtgs_rows.specs.Keeping.{HoldsBook}
 use Rattle.rtgs_sql_look_ups.specs.Finding.{IsLook}
 use Rattle.rtgs_sql_look_ups.specs.Skipping.{Between, IsDueOff}

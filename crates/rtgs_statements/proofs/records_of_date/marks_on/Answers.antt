@@ -1,6 +1,6 @@
 use Rattle.std.proofs.Common.{◌≡◌, ◌<◌, length, Option, Some, None, rules, refl, sym, ap, ◌∙◌, arith}
-use Rattle.rtgs_book.specs.declared.Mark.{Mark}
-use Rattle.rtgs_cores.specs.Nexts.{mark_after}
+use Rattle.rtgs_book.specs.declared.mark.Mark.{Mark}
+use Rattle.rtgs_book.specs.cores.Nexts.{mark_after}
 use Rattle.rtgs_statements.proofs.Leaving.{no_fault, nothing_read, read_more}
 use Rattle.rtgs_statements.proofs.RecordsOfDate.{marks_begin, mark_splits, marks_end}
 use Rattle.rtgs_statements.proofs.records_of_date.marks_on.Goals as goal

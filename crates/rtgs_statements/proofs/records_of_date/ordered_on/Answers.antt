@@ -1,7 +1,7 @@
 use Rattle.std.proofs.Common.{◌≡◌, ◌<◌, ◌≤◌, ◌^◌, Option, Some, None, rules, refl, sym, ◌∙◌, arith}
 use Rattle.rtgs_money.specs.declared.amount.TheConstants.Amount as Amount
-use Rattle.rtgs_book.specs.declared.Order.{Order}
-use Rattle.rtgs_cores.specs.Nexts.{order_after}
+use Rattle.rtgs_book.specs.declared.order.Order.{Order}
+use Rattle.rtgs_book.specs.cores.Nexts.{order_after}
 use Rattle.rtgs_statements.specs.Records.{orders_on}
 use Rattle.rtgs_statements.proofs.Days.{none_within, none_with_all, more_with_left, more_within, within_is_roomy}
 use Rattle.rtgs_statements.proofs.Days.{comes_to_all}

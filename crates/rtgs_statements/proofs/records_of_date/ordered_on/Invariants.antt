@@ -1,5 +1,5 @@
 use Rattle.std.proofs.Common.{◌<◌, ◌-◌, ◌^◌, None}
-use Rattle.rtgs_book.specs.declared.Book.{Book}
+use Rattle.rtgs_book.specs.declared.book.Book.{Book}
 use Rattle.rtgs_statements.specs.Reads.{LeavesRead}
 use Rattle.rtgs_statements.specs.Records.{orders_on}
 use Rattle.rtgs_statements.proofs.Days.{IsWithin, IsWithLeft}

@@ -1,8 +1,8 @@
 use Rattle.std.proofs.Common.{◌≡◌, ◌<◌, ◌+◌, ◌*◌, pos, Option, Some, None, rules, refl, sym, ap, ◌∙◌, arith}
 use Rattle.std.proofs.lemmas.Int.{ints}
 use Rattle.rtgs_money.specs.declared.posting_amount.TheConstants.PostingAmount as PostingAmount
-use Rattle.rtgs_book.specs.declared.Posting.{Posting}
-use Rattle.rtgs_cores.specs.Nexts.{posting_after}
+use Rattle.rtgs_book.specs.declared.posting.Posting.{Posting}
+use Rattle.rtgs_book.specs.cores.Nexts.{posting_after}
 use Rattle.rtgs_statements.specs.Rows.{is_to}
 use Rattle.rtgs_statements.specs.Sums.{posted, sum_at}
 use Rattle.rtgs_statements.proofs.Leaving.{no_fault, nothing_read, read_more}

@@ -5,9 +5,9 @@ use Rattle.std.proofs.lemmas.List.{append-nil}
 use Rattle.std.specs.Io.KnownBytes.{Appends}
 use Rattle.std.specs.Str.{bytes_eq}
 use Rattle.rtgs_money.specs.declared.amount.TheConstants.Amount as Amount
-use Rattle.rtgs_book.specs.declared.Order.{Order}
+use Rattle.rtgs_book.specs.declared.order.Order.{Order}
 use Rattle.rtgs_book.specs.Books.{is_settled}
-use Rattle.rtgs_cores.specs.Nexts.{order_after}
+use Rattle.rtgs_book.specs.cores.Nexts.{order_after}
 use Rattle.rtgs_statements.specs.declared.party.Party.TheVariants.{Sender, Receiver}
 use Rattle.rtgs_statements.specs.Records.{orders_on}
 use Rattle.rtgs_statements.specs.Rows.{order_row, order_rows, settled_by}

@@ -1,6 +1,6 @@
 use Rattle.std.proofs.Common.{◌≡◌, ◌<◌, ◌-◌, ◌*◌, ◌^◌, ◌+ℤ◌, ◌++◌, ℕ, List, None}
 use Rattle.std.specs.Io.KnownBytes.{Appends}
-use Rattle.rtgs_book.specs.declared.Book.{Book}
+use Rattle.rtgs_book.specs.declared.book.Book.{Book}
 use Rattle.rtgs_money.specs.declared.amount.TheConstants.Amount as Amount
 use Rattle.rtgs_statements.specs.Reads.{LeavesRead, AppendsWholeLines}
 use Rattle.rtgs_statements.specs.Records.{orders_on}

@@ -4,8 +4,8 @@ use Rattle.std.proofs.lemmas.Int.{ints}
 use Rattle.std.proofs.lemmas.List.{append-nil}
 use Rattle.std.specs.Io.KnownBytes.{Appends}
 use Rattle.rtgs_money.specs.declared.posting_amount.TheConstants.PostingAmount as PostingAmount
-use Rattle.rtgs_book.specs.declared.Posting.{Posting}
-use Rattle.rtgs_cores.specs.Nexts.{posting_after}
+use Rattle.rtgs_book.specs.declared.posting.Posting.{Posting}
+use Rattle.rtgs_book.specs.cores.Nexts.{posting_after}
 use Rattle.rtgs_statements.specs.Records.{postings_on}
 use Rattle.rtgs_statements.specs.Rows.{is_to, posting_row, posting_rows}
 use Rattle.rtgs_statements.specs.Sums.{posted}

@@ -1,20 +1,19 @@
 //! Calls of a desk one after another are one session.
 ghost use Rattle.std.specs.Prelude.{◌≡◌, ◌≢◌, ◌∷◌, List, map, length, take, Err, IfOk};
-ghost use Rattle.rtgs_book.specs.declared.Book.{Book};
+ghost use Rattle.rtgs_book.specs.declared.book.Book.{Book};
 ghost use Rattle.rtgs_book.specs.Outcome.{Reply, own_of};
 ghost use Rattle.rtgs_book.specs.Session.{IsSession};
 ghost use Rattle.rtgs_desk.specs.Holding.{Holds};
-ghost use Rattle.rtgs_batches.specs.Batches.{orders_of, replies_of, with_stop};
+ghost use Rattle.rtgs_desk.specs.batches.Batches.{orders_of, replies_of, with_stop};
 
 use super::super::setting::{alone, code};
 use super::{THREE_ROWS, open_desk, rows_of};
-use rtgs_batches::submit_batch;
 use rtgs_book::{Answer, Command, Refusal, WholeAnswer};
-use rtgs_desk::Desk;
+use rtgs_desk::{Desk, submit_batch};
 use rtgs_keeper::Keeper;
+use rtgs_laws::repeats::laws::sessions_join;
 use rtgs_money::Code;
 use rtgs_order_files::{BatchResult, OrderRow};
-use rtgs_repeats::laws::sessions_join;
 use std::alloc::{AllocError, Global};
 use std::test::Fail;
 

@@ -3,8 +3,8 @@ use super::super::setting::{MONDAY, code, date, kept, order, participant, postin
 use rtgs_book::{Day, Fault, OrderState, Phase, RowChange, Rule};
 use rtgs_desk::Desk;
 use rtgs_keeper::Keeper;
-use rtgs_memory_keeper::MemoryKeeper;
 use rtgs_money::Cents;
+use rtgs_tests_desks::MemoryKeeper;
 use std::alloc::Global;
 use std::test::Fail;
 

@@ -4,8 +4,8 @@ use super::super::setting::{MONDAY, code, date, desk_over, kept, order, particip
 use rtgs_book::{Day, Order, OrderState, Phase, Refusal, RowChange};
 use rtgs_desk::{AccountReading, Desk};
 use rtgs_keeper::Keeper;
-use rtgs_memory_keeper::MemoryKeeper;
 use rtgs_money::{Cents, Code, Reference, Units};
+use rtgs_tests_desks::MemoryKeeper;
 use std::alloc::Global;
 use std::test::Fail;
 

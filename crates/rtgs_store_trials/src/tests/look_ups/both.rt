@@ -3,12 +3,11 @@ use super::super::setting::{
     MONDAY, TUESDAY, change, code, date, held, kept, new_keeper, order, participant, posting,
 };
 use super::asking::answers;
-use rtgs_book::{Account, Day, Fault, Mark, Order, OrderState, Phase, RowChange, Rule};
-use rtgs_cores::Core;
+use rtgs_book::{Account, Core, Day, Fault, Mark, Order, OrderState, Phase, RowChange, Rule};
 use rtgs_keeper::Keeper;
-use rtgs_memory_keeper::MemoryKeeper;
 use rtgs_money::Cents;
 use rtgs_tables::SqlKeeper;
+use rtgs_tests_desks::MemoryKeeper;
 use sqlite::MemStore;
 use std::alloc::Global;
 use std::fmt::Write;

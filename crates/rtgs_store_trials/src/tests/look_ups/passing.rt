@@ -3,8 +3,8 @@
 use super::super::setting::{MONDAY, TUESDAY, code, date, new_keeper, reference};
 use rtgs_book::{Change, Mark, Order, OrderState, Posting, RowChange, Rows};
 use rtgs_keeper::Keeper;
-use rtgs_memory_keeper::MemoryKeeper;
 use rtgs_money::{Amount, BusinessDate, Cents, PostingAmount, Reference};
+use rtgs_tests_desks::MemoryKeeper;
 use std::alloc::Global;
 use std::process::Abort;
 use std::test::Fail;

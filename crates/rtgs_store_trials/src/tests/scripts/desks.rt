@@ -4,8 +4,8 @@ use super::records::{mark_if_any, order_if_any, posting_if_any};
 use super::{Answers, command_of, day_of, follows, reply_text, words_of};
 use rtgs_desk::{AccountReading, Desk};
 use rtgs_keeper::Keeper;
-use rtgs_memory_keeper::MemoryKeeper;
 use rtgs_statements::Source;
+use rtgs_tests_desks::MemoryKeeper;
 use std::alloc::Global;
 use std::test::Fail;
 

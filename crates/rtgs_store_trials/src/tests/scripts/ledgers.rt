@@ -3,12 +3,11 @@ use super::super::setting::{Reply, code, reference};
 use super::records::{order_if_any, queue_text};
 use super::rows::{day_text, rows_text};
 use super::{Answers, command_of, follows, reply_text, words_of};
-use rtgs_book::{Answer, Command, Resolution};
-use rtgs_cores::Found;
+use rtgs_book::{Answer, Command, Found, Resolution};
 use rtgs_keeper::Keeper;
 use rtgs_ledger::Ledger;
-use rtgs_memory_keeper::MemoryKeeper;
 use rtgs_money::BusinessDate;
+use rtgs_tests_desks::MemoryKeeper;
 use std::alloc::Global;
 use std::test::Fail;
 

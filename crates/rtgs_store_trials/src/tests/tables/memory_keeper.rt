@@ -2,8 +2,8 @@
 use super::super::setting::{MONDAY, code, date, kept, order, posting};
 use super::{has_two_banks, with_two_banks};
 use rtgs_book::{Book, Day, Fault, Mark, Order, OrderState, Participant, Phase, RowChange, Rule};
-use rtgs_memory_keeper::MemoryKeeper;
 use rtgs_money::{Cents, Credit};
+use rtgs_tests_desks::MemoryKeeper;
 use std::alloc::Global;
 use std::test::Fail;
 

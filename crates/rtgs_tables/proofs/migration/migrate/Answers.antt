@@ -1,6 +1,6 @@
 use Rattle.std.proofs.Common.{Err, true≢false, sym, ap, ◌∙◌}
 use Rattle.sqlite.specs.Held.{state}
-use Rattle.rtgs_book.specs.declared.Fault.TheVariants.{StoreFault}
+use Rattle.rtgs_book.specs.declared.fault.Fault.TheVariants.{StoreFault}
 use Rattle.rtgs_rows.specs.Migrating.{Migrates}
 use Rattle.rtgs_tables.proofs.Migrating.{explained_migrates, failed_migrates, wrote_migrates, stayed_migrates}
 use Rattle.rtgs_tables.proofs.Judging.{passed_as}

@@ -1,8 +1,8 @@
 //! A book in memory, of whose reads one can meet trouble.
 ghost use Rattle.std.specs.Prelude.{◌≡◌, Err, OnOk, IfErr, ◌⊎◌, true, false, map, slice_get};
-ghost use Rattle.rtgs_book.specs.declared.Participant.{Participant as ParticipantSpec};
+ghost use Rattle.rtgs_book.specs.declared.participant.Participant.{Participant as ParticipantSpec};
 ghost use Rattle.std.specs.List.{find};
-ghost use Rattle.rtgs_cores.specs.Nexts.{is_posting_after, is_order_after, is_mark_after};
+ghost use Rattle.rtgs_book.specs.cores.Nexts.{is_posting_after, is_order_after, is_mark_after};
 
 use rtgs_book::{Book, Mark, Order, Participant, Posting, Refusal};
 use rtgs_money::{BusinessDate, Code};

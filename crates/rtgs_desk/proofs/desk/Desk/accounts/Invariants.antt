@@ -1,5 +1,5 @@
 use Rattle.std.proofs.Common.{◌≡◌, take}
-use Rattle.rtgs_book.specs.declared.Book.{Book}
+use Rattle.rtgs_book.specs.declared.book.Book.{Book}
 use Rattle.rtgs_desk.specs.Holding.{HasInMemory}
 use Rattle.rtgs_desk.specs.Readings.{readings_of}
 use Rattle.rtgs_desk.proofs.desk.Desk.accounts.Given as goal

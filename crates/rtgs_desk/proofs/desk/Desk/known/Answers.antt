@@ -1,12 +1,12 @@
 use Rattle.std.proofs.Common.{◌≡◌, ◌∙◌, List, ℕ, Option, Some, None, Ok, Err, refl, subst, option_map}
 use Rattle.std.specs.Prelude.{IfSome, ok_or}
-use Rattle.rtgs_book.specs.declared.Account.{Account}
-use Rattle.rtgs_book.specs.declared.Book.{Book}
-use Rattle.rtgs_book.specs.declared.Participant.{Participant}
-use Rattle.rtgs_book.specs.declared.Refusal.TheVariants.{UnknownParticipant}
+use Rattle.rtgs_book.specs.declared.account.Account.{Account}
+use Rattle.rtgs_book.specs.declared.book.Book.{Book}
+use Rattle.rtgs_book.specs.declared.participant.Participant.{Participant}
+use Rattle.rtgs_book.specs.declared.refusal.Refusal.TheVariants.{UnknownParticipant}
 use Rattle.rtgs_book.specs.Balance.{balance}
 use Rattle.rtgs_book.specs.Lookup as lookup
-use Rattle.rtgs_cores.specs.Following.{participant_of}
+use Rattle.rtgs_book.specs.cores.Following.{participant_of}
 use Rattle.rtgs_desk.specs.Readings.{account_known, if_known}
 use Rattle.rtgs_desk.proofs.HoldingLemmas.{core_remembered}
 use Rattle.rtgs_desk.proofs.desk.Desk.known.Goals as goal

@@ -1,11 +1,11 @@
 use Rattle.std.proofs.Common.{◌≡◌, ◌≢◌, ◌∙◌, ℕ, ℤ, List, Option, None, refl, ap, sym, subst}
-use Rattle.rtgs_book.specs.declared.Book.{Book}
-use Rattle.rtgs_book.specs.declared.Command.{Command}
-use Rattle.rtgs_book.specs.declared.Command.TheVariants as command
-use Rattle.rtgs_book.specs.declared.Order.{Order}
-use Rattle.rtgs_book.specs.declared.Posting.{Posting}
+use Rattle.rtgs_book.specs.declared.book.Book.{Book}
+use Rattle.rtgs_book.specs.declared.command.Command.{Command}
+use Rattle.rtgs_book.specs.declared.command.Command.TheVariants as command
+use Rattle.rtgs_book.specs.declared.order.Order.{Order}
+use Rattle.rtgs_book.specs.declared.posting.Posting.{Posting}
 use Rattle.rtgs_book.specs.Lookup.{order_named, posting_named}
-use Rattle.rtgs_cores.specs.Cores.{found_for}
+use Rattle.rtgs_book.specs.cores.Cores.{found_for}
 use Rattle.rtgs_desk.specs.LookUps.{LooksUp}
 use Rattle.rtgs_desk.specs.Seen.{Seen}
 use Rattle.rtgs_desk.proofs.LookUpLemmas.{failed_before, looks_at_nothing}

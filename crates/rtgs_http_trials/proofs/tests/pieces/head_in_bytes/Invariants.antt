@@ -1,4 +1,4 @@
-use Rattle.rtgs_http_feeds.specs.Region.{IsOpen}
+use Rattle.rtgs_http_requests.specs.feeds.Region.{IsOpen}
 use Rattle.rtgs_http_trials.proofs.tests.pieces.head_in_bytes.Given as goal
 
 -- The bytes before this place hold no region.

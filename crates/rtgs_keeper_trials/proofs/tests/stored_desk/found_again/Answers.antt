@@ -1,6 +1,6 @@
 use Rattle.std.proofs.Common.{Result, Ok, Err, sym, subst}
 use Rattle.std.specs.Result.{IfOk}
-use Rattle.rtgs_stored_desk.specs.Stored.{AreTablesOf}
+use Rattle.rtgs_book_file.specs.stored_desk.Stored.{AreTablesOf}
 use Rattle.rtgs_keeper_trials.proofs.tests.stored_desk.found_again.Goals as goal
 
 -- what two clauses say of a value together

@@ -4,7 +4,7 @@ use Rattle.rtgs_book.specs.declared.book.Book.{Book}
 use Rattle.rtgs_book.specs.Balance.{balance}
 use Rattle.rtgs_book.specs.Lookup as lookup
 use Rattle.rtgs_book.specs.declared.account.Account.{Account}
-use Rattle.rtgs_accounts.specs.Accounts.{is_of, participant_of}
+use Rattle.rtgs_records.specs.accounts.Accounts.{is_of, participant_of}
 use Rattle.rtgs_ledger.proofs.Kept.{find-participants, balance_at}
 use Rattle.rtgs_ledger.proofs.Whole.{Whole, whole, book_of, is_of_book}
 use Rattle.rtgs_ledger.proofs.ledger.Ledger.account.Goals as goal

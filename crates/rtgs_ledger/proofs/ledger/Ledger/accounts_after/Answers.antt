@@ -1,7 +1,7 @@
 use Rattle.std.proofs.Common.{◌≡◌, ◌∙◌, ◌+◌, ◌≤◌, ◌++◌, ◌∷◌, [], sym, ap, subst, map, take, length, arith}
 use Rattle.std.proofs.lemmas.List.{take_more, take_all}
 use Rattle.rtgs_book.specs.declared.limits.TheConstants.{MOST_QUEUED}
-use Rattle.rtgs_accounts.specs.Accounts.{after_order}
+use Rattle.rtgs_records.specs.accounts.Accounts.{after_order}
 use Rattle.rtgs_records.specs.Held.{Held}
 use Rattle.rtgs_ledger.specs.Resolving.{after_orders}
 use Rattle.rtgs_ledger.proofs.Settling.{AreNear, all_after_none, all_after_more, near_small, near_more, near_is_small}

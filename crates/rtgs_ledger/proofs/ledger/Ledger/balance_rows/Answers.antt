@@ -4,7 +4,7 @@ use Rattle.std.specs.List.{AllByRecursion}
 use Rattle.rtgs_book.specs.declared.account.Account.{Account}
 use Rattle.rtgs_book.specs.declared.change.RowChange.TheVariants.{SetBalance}
 use Rattle.rtgs_choices.specs.Settling.{IsOfBalance}
-use Rattle.rtgs_accounts.specs.Accounts.{code_of}
+use Rattle.rtgs_records.specs.accounts.Accounts.{code_of}
 use Rattle.rtgs_ledger.specs.Resolving.{moved_rows}
 use Rattle.rtgs_ledger.proofs.ledger.Ledger.balance_rows.Goals as goal
 

@@ -1,7 +1,7 @@
 use Rattle.std.proofs.Common.{◌≡◌, ◌∙◌, sym, ap, map, List, find}
 use Rattle.std.specs.Option.{option_map}
 use Rattle.rtgs_book.specs.declared.participant.Participant.{Participant}
-use Rattle.rtgs_accounts.specs.Accounts.{code_of, participant_of}
+use Rattle.rtgs_records.specs.accounts.Accounts.{code_of, participant_of}
 use Rattle.rtgs_records.specs.Held.{Held}
 use Rattle.rtgs_ledger.specs.Keys.{is_key_of}
 use Rattle.rtgs_ledger.proofs.Keys.{code_of-bearer}

@@ -1,9 +1,9 @@
 use Rattle.std.proofs.Common.{sym, ap, subst, ◌∙◌, inl, inr, ⊎_elim}
 use Rattle.std.proofs.lemmas.Result.{err_from_is_err_and}
 use Rattle.rtgs_book.specs.declared.command.Command.TheVariants.{Resolve}
-use Rattle.rtgs_cores.specs.declared.Core.{Core}
-use Rattle.rtgs_cores.specs.Cores.{IsCoreOf}
-use Rattle.rtgs_cores.specs.Following.{core_after}
+use Rattle.rtgs_book.specs.declared.cores.cores.Core.{Core}
+use Rattle.rtgs_book.specs.cores.Cores.{IsCoreOf}
+use Rattle.rtgs_book.specs.cores.Following.{core_after}
 use Rattle.rtgs_ledger.specs.Kept.{IsPreparedByItself}
 use Rattle.rtgs_ledger.proofs.Following.{none_again}
 use Rattle.rtgs_ledger.proofs.ledger.Ledger.follow.Goals as goal

@@ -1,10 +1,10 @@
 use Rattle.std.proofs.Common.{◌≡◌, ◌∙◌, ◌++◌, filter, map, ap, append_assoc}
 use Rattle.rtgs_book.specs.declared.account.Account.{Account}
 use Rattle.rtgs_book.specs.declared.change.RowChange.TheVariants.{SetBalance}
-use Rattle.rtgs_accounts.specs.Accounts.{code_of}
+use Rattle.rtgs_records.specs.accounts.Accounts.{code_of}
 use Rattle.rtgs_choices.specs.Joining.{without_balances}
-use Rattle.rtgs_cores.specs.declared.Core.{Core}
-use Rattle.rtgs_cores.specs.Following.{core_after}
+use Rattle.rtgs_book.specs.declared.cores.cores.Core.{Core}
+use Rattle.rtgs_book.specs.cores.Following.{core_after}
 use Rattle.rtgs_records.specs.Held.{Held}
 use Rattle.rtgs_ledger.specs.Following.{has_moved, moved_between, sets_no_balance}
 use Rattle.rtgs_ledger.proofs.ledger.Ledger.join.Goals as goal

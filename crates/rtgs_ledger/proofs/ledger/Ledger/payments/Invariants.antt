@@ -1,6 +1,6 @@
 use Rattle.std.proofs.Common.{◌≡◌, ◌++◌, map, drop}
 use Rattle.rtgs_book.specs.declared.account.Account.{Account}
-use Rattle.rtgs_accounts.specs.Accounts.{code_of}
+use Rattle.rtgs_records.specs.accounts.Accounts.{code_of}
 use Rattle.rtgs_ledger.specs.Choosing.{payments_in}
 use Rattle.rtgs_ledger.proofs.ledger.Ledger.payments.Given as goal
 

@@ -6,8 +6,8 @@ use Rattle.rtgs_book.specs.declared.day.Day.{Day}
 use Rattle.rtgs_book.specs.Books.{is_automatic}
 use Rattle.rtgs_book.specs.Outcome.{is_done}
 use Rattle.rtgs_book.specs.Step.{may_free}
-use Rattle.rtgs_cores.specs.declared.Core.{Core}
-use Rattle.rtgs_cores.specs.Cores.{IsCoreOf}
+use Rattle.rtgs_book.specs.declared.cores.cores.Core.{Core}
+use Rattle.rtgs_book.specs.cores.Cores.{IsCoreOf}
 use Rattle.rtgs_ledger.specs.Following.{day_after}
 use Rattle.rtgs_ledger.specs.Kept.{IsCommandRefused, IsPrepared, IsPreparedByItself}
 use Rattle.rtgs_ledger.proofs.Following.{all_parts, day_left, prepared_alone, refused_alone}

@@ -8,8 +8,8 @@ use Rattle.rtgs_book.specs.declared.answer.Known.TheVariants.{Nothing}
 use Rattle.rtgs_book.specs.declared.limits.TheConstants.{MOST_PARTICIPANTS}
 use Rattle.rtgs_book.specs.declared.book.Book.{Book}
 use Rattle.rtgs_book.specs.declared.refusal.Refusal.TheVariants.{OutOfMemory}
-use Rattle.rtgs_accounts.specs.Accounts.{has_key}
-use Rattle.rtgs_cores.specs.Cores.{IsCoreOf}
+use Rattle.rtgs_records.specs.accounts.Accounts.{has_key}
+use Rattle.rtgs_book.specs.cores.Cores.{IsCoreOf}
 use Rattle.rtgs_ledger.specs.Kept.{IsRefusedByItself}
 use Rattle.rtgs_ledger.proofs.Adding.{repeats, code_taken, key_taken, too_many, prepared_add}
 use Rattle.rtgs_ledger.proofs.Kept.{participant_at, participant_none, prepared_repeat, any-participants}

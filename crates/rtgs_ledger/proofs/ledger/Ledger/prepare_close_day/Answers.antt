@@ -10,7 +10,7 @@ use Rattle.rtgs_ledger.proofs.Closing.{cut_off_today, may_lack}
 use Rattle.rtgs_ledger.proofs.CuttingOff.{other_date, same_date}
 use Rattle.rtgs_ledger.proofs.Kept.{prepared_repeat}
 use Rattle.rtgs_ledger.proofs.Resolving.{none_chosen, some_chosen}
-use Rattle.rtgs_cores.specs.Cores.{IsCoreOf}
+use Rattle.rtgs_book.specs.cores.Cores.{IsCoreOf}
 use Rattle.rtgs_ledger.specs.Closing.{IsClosable}
 use Rattle.rtgs_ledger.proofs.Whole.{held_of, book_of, whole, is_of_book, to_refused, to_prepared}
 use Rattle.rtgs_ledger.proofs.ledger.Ledger.prepare_close_day.Goals as goal

@@ -10,7 +10,7 @@ use Rattle.rtgs_book.specs.Books.{is_queued}
 use Rattle.rtgs_book.specs.Lookup.{accounts}
 use Rattle.rtgs_book.specs.Queue.{queued_numbers}
 use Rattle.rtgs_choices.specs.Closing.{closed_book}
-use Rattle.rtgs_accounts.specs.Accounts.{code_of}
+use Rattle.rtgs_records.specs.accounts.Accounts.{code_of}
 use Rattle.rtgs_ledger.specs.Closing.{IsClosable}
 use Rattle.rtgs_records.specs.Held as seen
 use Rattle.rtgs_ledger.proofs.Closing.{overdraws, nobody_below, prepared_closing, all_queued, numbers_queued}

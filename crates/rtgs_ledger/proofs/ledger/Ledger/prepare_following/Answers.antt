@@ -1,7 +1,7 @@
 use Rattle.std.proofs.Common.{◌∙◌, ◌≤◌, ◌+◌, ◌^◌, Bool, ◌&&◌, sym, ap, Ok, arith}
 use Rattle.std.proofs.lemmas.Bool.Decides.{nat_tests}
 use Rattle.std.proofs.lemmas.Result.{err_from_is_err_and}
-use Rattle.rtgs_cores.specs.Following.{core_after}
+use Rattle.rtgs_book.specs.cores.Following.{core_after}
 use Rattle.rtgs_book.specs.Books.{is_automatic}
 use Rattle.rtgs_book.specs.Outcome.{is_done}
 use Rattle.rtgs_book.specs.Step.{may_free}

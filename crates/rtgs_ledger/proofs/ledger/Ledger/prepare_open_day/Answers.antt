@@ -6,7 +6,7 @@ use Rattle.rtgs_book.specs.declared.order.Order.{Order}
 use Rattle.rtgs_book.specs.Commands.{is_due}
 use Rattle.rtgs_book.specs.declared.answer.Known.TheVariants.{Nothing}
 use Rattle.rtgs_book.specs.declared.refusal.Refusal.TheVariants.{OutOfMemory}
-use Rattle.rtgs_cores.specs.Cores.{IsCoreOf}
+use Rattle.rtgs_book.specs.cores.Cores.{IsCoreOf}
 use Rattle.rtgs_ledger.specs.Kept.{IsRefusedByItself}
 use Rattle.rtgs_ledger.proofs.Following.{opening_frees}
 use Rattle.rtgs_ledger.proofs.Kept.{prepared_repeat}

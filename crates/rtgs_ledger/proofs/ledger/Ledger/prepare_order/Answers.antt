@@ -8,8 +8,8 @@ use Rattle.rtgs_book.specs.declared.limits.TheConstants.{LONGEST_QUEUE, LARGEST_
 use Rattle.rtgs_book.specs.Commands.{settles_at_once, settles_now}
 use Rattle.rtgs_book.specs.Lookup.{order_named}
 use Rattle.rtgs_book.specs.Queue.{waiting}
-use Rattle.rtgs_accounts.specs.Accounts.{code_of, is_of}
-use Rattle.rtgs_cores.specs.Cores.{IsCoreOf}
+use Rattle.rtgs_records.specs.accounts.Accounts.{code_of, is_of}
+use Rattle.rtgs_book.specs.cores.Cores.{IsCoreOf}
 use Rattle.rtgs_ledger.specs.Ordering.{IsTaken}
 use Rattle.rtgs_ledger.proofs.Reading.{numbers_are}
 use Rattle.rtgs_ledger.proofs.Kept.{is_known, is_unknown, prepared_repeat}

@@ -1,6 +1,6 @@
 use Rattle.std.proofs.Common.{ap}
-use Rattle.rtgs_cores.specs.declared.found.Found.{Found}
-use Rattle.rtgs_cores.specs.Cores.{found_for}
+use Rattle.rtgs_book.specs.declared.cores.found.Found.{Found}
+use Rattle.rtgs_book.specs.cores.Cores.{found_for}
 use Rattle.rtgs_ledger.proofs.ledger.Ledger.prepare_own.Goals as goal
 
 pub returns-in-Post-clause-prepared : goal.returns-in-Post-clause-prepared

@@ -15,7 +15,7 @@ use Rattle.rtgs_ledger.proofs.Posting.{unknown, repeats, reference_used, numbers
 use Rattle.rtgs_ledger.proofs.Posting.{next_posting, prepared_post}
 use Rattle.rtgs_ledger.proofs.Kept.{is_known, is_unknown, balance_at, balance_fits, floor_at, total_at, prepared_repeat}
 use Rattle.rtgs_book.specs.declared.book.Book.{Book}
-use Rattle.rtgs_cores.specs.Cores.{IsCoreOf}
+use Rattle.rtgs_book.specs.cores.Cores.{IsCoreOf}
 use Rattle.rtgs_ledger.proofs.Whole.{IsPrepared, held_of, book_of, whole, is_of_book}
 use Rattle.rtgs_ledger.proofs.Whole.{to_lacking, to_refused, to_prepared}
 use Rattle.rtgs_ledger.proofs.ledger.Ledger.prepare_post.Goals as goal

@@ -7,7 +7,7 @@ use Rattle.rtgs_book.specs.declared.book.Book.{Book}
 use Rattle.rtgs_book.specs.Commands.{settles_at_once}
 use Rattle.rtgs_book.specs.Settle.{mark_of}
 use Rattle.rtgs_records.specs.Held.{Held}
-use Rattle.rtgs_accounts.specs.Accounts.{is_of}
+use Rattle.rtgs_records.specs.accounts.Accounts.{is_of}
 use Rattle.rtgs_ledger.specs.Ordering.{IsTaken}
 use Rattle.rtgs_ledger.proofs.Kept.{balance_fits}
 use Rattle.rtgs_ledger.proofs.Ordering.{prepared_settled, one_mark, taken_acts}

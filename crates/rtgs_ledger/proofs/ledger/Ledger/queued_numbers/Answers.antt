@@ -3,7 +3,7 @@ use Rattle.std.proofs.lemmas.List.{take_all}
 use Rattle.std.specs.List.{flat_map}
 use Rattle.rtgs_book.specs.declared.account.Account.{Account}
 use Rattle.rtgs_book.specs.Queue.{queued_numbers}
-use Rattle.rtgs_accounts.specs.Accounts.{code_of}
+use Rattle.rtgs_records.specs.accounts.Accounts.{code_of}
 use Rattle.rtgs_records.specs.Held.{Held}
 use Rattle.rtgs_ledger.proofs.ledger.Ledger.queued_numbers.Goals as goal
 

@@ -1,7 +1,7 @@
 use Rattle.std.proofs.Common.{◌≡◌, take}
 use Rattle.std.specs.List.{flat_map}
 use Rattle.rtgs_book.specs.Queue.{queued_numbers}
-use Rattle.rtgs_accounts.specs.Accounts.{code_of}
+use Rattle.rtgs_records.specs.accounts.Accounts.{code_of}
 use Rattle.rtgs_ledger.proofs.ledger.Ledger.queued_numbers.Given as goal
 
 -- the numbers in the queues of the accounts so far

@@ -1,7 +1,7 @@
 use Rattle.std.proofs.Common.{◌≡◌, List, true, map, ◌↔◌, sym, subst}
 use Rattle.std.specs.List.{AllByRecursion}
-use Rattle.rtgs_book.specs.declared.Mark.{Mark}
-use Rattle.rtgs_book.specs.declared.Order.{Order}
+use Rattle.rtgs_book.specs.declared.mark.Mark.{Mark}
+use Rattle.rtgs_book.specs.declared.order.Order.{Order}
 use Rattle.rtgs_book.specs.Soundness.{AreNumbered, HasMark}
 use Rattle.rtgs_soundness.specs.Tallies.{AreTallies, IsCounted, tally_of_mark}
 use Rattle.rtgs_soundness.proofs.Marks.{tallies_of}

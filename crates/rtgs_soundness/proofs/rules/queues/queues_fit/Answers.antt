@@ -2,7 +2,7 @@ use Rattle.std.proofs.Common.{◌≡◌, List, true, true≢false, pos, ◌≤�
 use Rattle.std.specs.Cmp.Lexicographic.{slice_cmp}
 use Rattle.std.specs.List.{AllByRecursion}
 use Rattle.rtgs_book.specs.declared.limits.TheConstants.{LONGEST_QUEUE}
-use Rattle.rtgs_book.specs.declared.Participant.{Participant}
+use Rattle.rtgs_book.specs.declared.participant.Participant.{Participant}
 use Rattle.rtgs_book.specs.Lookup.{accounts}
 use Rattle.rtgs_book.specs.Queue.{waiting}
 use Rattle.rtgs_book.specs.Totals.{Totals}

@@ -1,7 +1,7 @@
 use Rattle.std.proofs.Common.{ℕ, Ok, Err, Result, IfOk}
 use Rattle.sqlite.specs.State.{State}
 use Rattle.sqlite.specs.Held.{state}
-use Rattle.rtgs_book.specs.declared.Fault.{Fault}
+use Rattle.rtgs_book.specs.declared.fault.Fault.{Fault}
 use Rattle.rtgs_rows.specs.declared.resolution_row.ResolutionRow.{ResolutionRow}
 use Rattle.rtgs_rows.specs.TableRecords.{resolution_records}
 use Rattle.rtgs_rows.specs.Tables.{HasTable, IsVersion, resolution_table}

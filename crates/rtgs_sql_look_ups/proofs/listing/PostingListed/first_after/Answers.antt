@@ -1,7 +1,7 @@
 use Rattle.std.proofs.Common.{nat_lt, [], ◌∷◌, ap, sym, subst}
 use Rattle.sqlite.specs.Held.{state}
 use Rattle.sqlite.specs.Values.{bound_value}
-use Rattle.rtgs_book.specs.declared.Posting.{Posting}
+use Rattle.rtgs_book.specs.declared.posting.Posting.{Posting}
 use Rattle.rtgs_rows.specs.Fitting.{FitsPosting}
 use Rattle.rtgs_rows.specs.TableRecords.{posting_records}
 use Rattle.rtgs_sql_look_ups.specs.Finding.{after_tests, ShowsFirst}

@@ -1,7 +1,7 @@
 use Rattle.std.proofs.Common.{◌≡◌, ◌<◌, ℕ, List, Option, Some, None, length, arith, refl, ap, sym, ◌∙◌, rules, pos}
 use Rattle.sqlite.specs.declared.types.Value.TheVariants.{Int}
-use Rattle.rtgs_book.specs.declared.Order.{Order}
-use Rattle.rtgs_book.specs.declared.OrderState.{OrderState}
+use Rattle.rtgs_book.specs.declared.order.Order.{Order}
+use Rattle.rtgs_book.specs.declared.order_state.OrderState.{OrderState}
 use Rattle.rtgs_sql_queries.proofs.AsRead.{order_read, order_columns}
 use Rattle.rtgs_sql_queries.proofs.rows.OrderTableRow.from_row.Goals as goal
 

@@ -2,7 +2,7 @@ use Rattle.std.proofs.Common.{◌≡◌, ⊎_elim, sym, subst, arith}
 use Rattle.sqlite.specs.State.{HasCleanDisk}
 use Rattle.sqlite.specs.Tree.{Trees}
 use Rattle.sqlite.specs.Held.{state}
-use Rattle.rtgs_book.specs.declared.Book.{Book}
+use Rattle.rtgs_book.specs.declared.book.Book.{Book}
 use Rattle.rtgs_rows.specs.Keeping.{HoldsBook, MayLeave}
 use Rattle.rtgs_book.specs.Books.{new_book}
 use Rattle.rtgs_tables.specs.Building.{IsBlank, IsNoneOrNew}

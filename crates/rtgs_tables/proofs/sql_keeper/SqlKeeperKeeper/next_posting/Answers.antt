@@ -1,7 +1,7 @@
 use Rattle.std.proofs.Common.{◌≡◌, ap, ◌∙◌}
 use Rattle.std.proofs.lemmas.Result.{IfOk-weaker}
-use Rattle.rtgs_book.specs.declared.Posting.{Posting}
-use Rattle.rtgs_cores.specs.Nexts.{posting_after, date_of_posting}
+use Rattle.rtgs_book.specs.declared.posting.Posting.{Posting}
+use Rattle.rtgs_book.specs.cores.Nexts.{posting_after, date_of_posting}
 use Rattle.rtgs_sql_look_ups.specs.Seeking.{first_of_date}
 use Rattle.rtgs_tables.specs.declared.sql_keeper.SqlKeeper.{SqlKeeper}
 use Rattle.rtgs_tables.proofs.KeepingLooks.{reads_on, posting_of_date, some_date}

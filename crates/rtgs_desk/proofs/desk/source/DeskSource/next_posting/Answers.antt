@@ -1,5 +1,5 @@
 use Rattle.std.proofs.Common.{sym, subst, Some}
-use Rattle.rtgs_book.specs.declared.Refusal.{Refusal}
+use Rattle.rtgs_book.specs.declared.refusal.Refusal.{Refusal}
 use Rattle.rtgs_desk.specs.LookUps.{LooksUp}
 use Rattle.rtgs_desk.proofs.HoldingLemmas.{kept_inside}
 use Rattle.rtgs_desk.proofs.LookUpLemmas.{failed_before, looked_up, not_looked_up, reads}

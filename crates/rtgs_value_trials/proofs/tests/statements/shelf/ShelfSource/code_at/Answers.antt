@@ -1,7 +1,7 @@
 use Rattle.std.proofs.Common.{ap, ◌∙◌, List, map}
 use Rattle.std.specs.Prelude.{slice_get}
-use Rattle.rtgs_book.specs.declared.Book.{Book}
-use Rattle.rtgs_book.specs.declared.Participant.{Participant}
+use Rattle.rtgs_book.specs.declared.book.Book.{Book}
+use Rattle.rtgs_book.specs.declared.participant.Participant.{Participant}
 use Rattle.rtgs_book.specs.Lookup.{accounts}
 use Rattle.rtgs_value_trials.proofs.tests.statements.shelf.ShelfSource.code_at.Goals as goal
 

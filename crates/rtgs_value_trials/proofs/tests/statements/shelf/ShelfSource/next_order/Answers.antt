@@ -1,7 +1,7 @@
 use Rattle.std.proofs.Common.{ap, ◌∙◌}
 use Rattle.std.specs.List.{find}
-use Rattle.rtgs_book.specs.declared.Book.{Book}
-use Rattle.rtgs_cores.specs.Nexts.{order_after, is_order_after}
+use Rattle.rtgs_book.specs.declared.book.Book.{Book}
+use Rattle.rtgs_book.specs.cores.Nexts.{order_after, is_order_after}
 use Rattle.rtgs_value_trials.proofs.tests.statements.shelf.ShelfSource.next_order.Goals as goal
 
 pub returns-clause-found : goal.returns-clause-found

@@ -1,7 +1,7 @@
 use Rattle.std.proofs.Common.{ap, ◌∙◌}
 use Rattle.std.specs.List.{find}
-use Rattle.rtgs_book.specs.declared.Book.{Book}
-use Rattle.rtgs_cores.specs.Nexts.{posting_after, is_posting_after}
+use Rattle.rtgs_book.specs.declared.book.Book.{Book}
+use Rattle.rtgs_book.specs.cores.Nexts.{posting_after, is_posting_after}
 use Rattle.rtgs_value_trials.proofs.tests.statements.shelf.ShelfSource.next_posting.Goals as goal
 
 pub returns-clause-found : goal.returns-clause-found

@@ -1,0 +1,151 @@
+-- What a run prints for its request, why it is refused, and what it leaves on its two writers.
+use Rattle.std.specs.Prelude.{◌≡◌, ◌≢◌, ◌⊎◌, ℕ, ⊤, Bool, true, false, List, Option, Some, None, Result, Ok, Err}
+use Rattle.std.specs.declared.snapshot.Snapshot.{Snapshot}
+use Rattle.clap.specs.Words.{kind_of}
+use Rattle.clap.specs.declared.error.Error.{Error}
+use Rattle.clap.specs.declared.error.kind.ErrorKind.{ErrorKind}
+use Rattle.clap.specs.declared.error.kind.ErrorKind.TheVariants as kind
+use Rattle.rtgs_refusals.specs.declared.refusal_kind.RefusalKind.{RefusalKind}
+use Rattle.rtgs_refusal_texts.specs.Texts.{explanation}
+use Rattle.rtgs_money.specs.declared.lexical.Lexical.{Lexical}
+use Rattle.rtgs_book.specs.declared.refusal.Refusal.TheVariants.{OutOfMemory}
+use Rattle.rtgs_cli_arguments.specs.declared.asked.Asked.{Asked}
+use Rattle.rtgs_cli_arguments.specs.declared.asked.Asked.TheVariants.{Run, Refusals}
+use Rattle.rtgs_cli_arguments.specs.requests.Requests.{ReadsRequest}
+use Rattle.rtgs_cli_arguments.specs.declared.requests.words.Words.{Words}
+use Rattle.rtgs_cli_arguments.specs.declared.requests.request.Request.{Request}
+use Rattle.rtgs_cli_arguments.specs.declared.requests.request.Request.TheVariants.{Make, Migrate, Submit, Import, Read}
+use Rattle.rtgs_cli_arguments.specs.declared.requests.request.Request.TheVariants.{Serve}
+use Rattle.rtgs_cli_lines.specs.Failures.{failure_line as refusal_line}
+use Rattle.rtgs_cli_lines.specs.SentTo.{IsSentTo}
+use Rattle.rtgs_cli_lines.specs.declared.ended.Ended.{Ended}
+use Rattle.rtgs_cli_lines.specs.declared.ended.Ended.TheVariants as ended
+use Rattle.rtgs_cli_lines.specs.declared.failure.Failure.{Failure}
+use Rattle.rtgs_cli_lines.specs.declared.failure.Failure.TheVariants.{Form, Refused}
+use Rattle.rtgs_cli_lines.specs.declared.printed.Printed.{Printed}
+use Rattle.rtgs_output.specs.declared.writer_failed.WriterFailed.{WriterFailed}
+use Rattle.rtgs_http_server.specs.declared.port.Port.{Port}
+use Rattle.rtgs_book_file.specs.OverFile.{OverFile}
+use Rattle.rtgs_cli_files.specs.Printing.{ended_line, PrintsText}
+use Rattle.rtgs_cli_files.specs.Touching.{IsNoBookMade, IsNotMigrated, IsOf, IsUntouched}
+use Rattle.rtgs_cli_files.specs.declared.used.Used.{Used}
+use Rattle.rtgs_cli_files.specs.declared.touched.Touched.{Touched}
+use Rattle.rtgs_cli_commands.specs.Commands.{HasMade, HasMigrated, HasAnswered, IsNotAnswered}
+use Rattle.rtgs_cli_imports.specs.Imports.{HasSent, IsNotImported}
+use Rattle.rtgs_cli_imports.specs.declared.order_file.OrderFile.{OrderFile}
+use Rattle.rtgs_cli_readings.specs.Readings as readings
+use Rattle.rtgs_cli_serving.specs.Serving.{Serves, IsNotServed}
+use Rattle.rtgs_cli_serving.specs.declared.no_port.NoPort.{NoPort}
+
+-- help, or the version, and no fault of the command line
+abbrev pub is_help : ErrorKind → Bool
+is_help kind.DisplayHelp = true
+is_help kind.DisplayVersion = true
+is_help _ = false
+
+-- What is left on the writers where the command line itself has this kind of answer: help on the first alone, or a
+-- fault of the command line on the second alone. Lack of memory is refused, and can come in place of both.
+abbrev pub IsExplained : {O E : Type 0} → ErrorKind → (O → Option (List ℕ)) → (E → Option (List ℕ)) → Ended → O → O → E
+    → E → Type 0
+IsExplained what contents reported (ended.Printed printed) out out' err err' = ⊥
+IsExplained what contents reported (ended.Helped sent) out out' err err' =
+    (is_help what ≡ true) × ((text : List ℕ) × IsSentTo sent (contents out) (contents out') text) × (err' ≡ err)
+IsExplained what contents reported (ended.Refused failure sent) out out' err err' =
+    (failure ≡ Refused OutOfMemory) × IsSentTo sent (reported err) (reported err') (ended_line (refusal_line failure))
+    × (out' ≡ out)
+IsExplained what contents reported (ended.Misused sent) out out' err err' =
+    (is_help what ≡ false) × (what ≢ kind.OutOfMemory)
+    × ((text : List ℕ) × IsSentTo sent (reported err) (reported err') text)
+    × (out' ≡ out)
+
+-- what is said of a refusal, or of each, is left on the first writer, as far as that took it
+abbrev pub AreExplained : {O : Type 0} → Option RefusalKind → (O → Option (List ℕ)) → Ended → O → O → Type 0
+AreExplained which contents ends out out' =
+    (sent : Result ⊤ WriterFailed) × (ends ≡ ended.Helped sent)
+    × IsSentTo sent (contents out) (contents out') (explanation which)
+
+-- the file that a request names
+abbrev pub file_of : Request → List ℕ
+file_of (Make file) = file.now
+file_of (Migrate file) = file.now
+file_of (Submit file command) = file.now
+file_of (Import file sender orders) = file.now
+file_of (Read file reading) = file.now
+file_of (Serve file port count operator) = file.now
+
+-- what a run touched, where a file that was refused is a U, and one that was closed a C
+abbrev pub Traces : (A U C : Type 0) → Type 0
+Traces A U C = Touched A U C (Used (Snapshot OrderFile) (Snapshot Port) (Snapshot NoPort))
+
+module _ {A K U C : Type 0} (book_file : OverFile K U C) where
+  -- the run printed what it had to, as far as standard output took it
+  abbrev pub PrintsFor : Request → Traces A U C → Printed → Option (List ℕ) → Option (List ℕ) → Type 0
+  PrintsFor (Make file) touched printed old new = PrintsText (HasMade book_file touched) printed old new
+  PrintsFor (Migrate file) touched printed old new = PrintsText (HasMigrated book_file touched) printed old new
+  PrintsFor (Submit file command) touched printed old new =
+      PrintsText (HasAnswered book_file command touched) printed old new
+  PrintsFor (Import file sender orders) touched printed old new =
+      PrintsText (HasSent book_file sender touched) printed old new
+  PrintsFor (Read file reading) touched printed old new = readings.Shows book_file reading touched printed old new
+  PrintsFor (Serve file port count operator) touched printed old new =
+      Serves book_file port count operator touched printed old new
+
+  -- Why a run with this request is refused, and what it leaves on standard output: nothing, or the beginning of a
+  -- statement that was refused after some of its rows.
+  abbrev pub Denies : {O : Type 0} → (O → Option (List ℕ)) → Request → Traces A U C → Failure → O → O → Type 0
+  Denies contents (Make file) touched why out out' = IsNoBookMade book_file touched why × (out' ≡ out)
+  Denies contents (Migrate file) touched why out out' = IsNotMigrated book_file touched why × (out' ≡ out)
+  Denies contents (Submit file command) touched why out out' =
+      IsNotAnswered book_file command touched why × (out' ≡ out)
+  Denies contents (Import file sender orders) touched why out out' =
+      IsNotImported book_file sender touched why × (out' ≡ out)
+  Denies contents (Read file reading) touched why out out' =
+      readings.Denies book_file contents reading touched why out out'
+  Denies contents (Serve file port count operator) touched why out out' =
+      IsNotServed book_file touched why × (out' ≡ out)
+
+  -- the words spell a request for which this was printed, and whose file was touched
+  abbrev pub IsCarriedOut : Words → Traces A U C → Printed → Option (List ℕ) → Option (List ℕ) → Type 0
+  IsCarriedOut words touched printed old new =
+      (request : Request) × ReadsRequest words (Ok request) × PrintsFor request touched printed old new
+      × IsOf book_file (file_of request) touched
+
+  -- a word is not of its form, or the request that the words spell is refused, and its file was touched
+  abbrev pub IsDenied : {O : Type 0} → (O → Option (List ℕ)) → Words → Traces A U C → Failure → O → O → Type 0
+  IsDenied contents words touched why out out' =
+      ((form : Lexical) × ReadsRequest words (Err form) × (why ≡ Form form) × IsUntouched book_file touched × (out'
+      ≡ out))
+      ⊎ ((request : Request) × ReadsRequest words (Ok request) × Denies contents request touched why out out'
+      × IsOf book_file (file_of request) touched)
+
+  -- What a run that was given these words did, by how it ended, and leaves on its writers: what was printed for the
+  -- request that they spell stands on the first alone, and why it was refused on the second alone. Rows of a statement
+  -- that was refused behind them stay on the first.
+  abbrev pub EndsFor : {O E : Type 0} → Words → (O → Option (List ℕ)) → (E → Option (List ℕ)) → Ended
+      → Traces A U C → O → O → E → E → Type 0
+  EndsFor words contents reported (ended.Printed printed) touched out out' err err' =
+      IsCarriedOut words touched printed (contents out) (contents out') × (err' ≡ err)
+  EndsFor words contents reported (ended.Refused failure sent) touched out out' err err' =
+      IsSentTo sent (reported err) (reported err') (ended_line (refusal_line failure))
+      × IsDenied contents words touched failure out out'
+  EndsFor words contents reported (ended.Helped sent) touched out out' err err' = ⊥
+  EndsFor words contents reported (ended.Misused sent) touched out out' err err' = ⊥
+
+  -- The same of a run whose command line was read so: the words of a request, the refusals to explain, none, or what
+  -- the command line itself has to say.
+  abbrev pub EndsAfter : {O E : Type 0} → Result (Option Asked) Error → (O → Option (List ℕ)) → (E → Option (List ℕ))
+      → Ended → Traces A U C → O → O → E → E → Type 0
+  EndsAfter (Ok (Some (Run words))) contents reported ends touched out out' err err' =
+      EndsFor words contents reported ends touched out out' err err'
+  EndsAfter (Ok (Some (Refusals which))) contents reported ends touched out out' err err' =
+      AreExplained which contents ends out out' × (err' ≡ err) × IsUntouched book_file touched
+  EndsAfter (Ok None) contents reported ends touched out out' err err' =
+      (ends ≡ ended.Misused (Ok _)) × (out' ≡ out) × (err' ≡ err) × IsUntouched book_file touched
+  EndsAfter (Err error) contents reported ends touched out out' err err' =
+      IsExplained (kind_of error) contents reported ends out out' err err' × IsUntouched book_file touched
+
+  -- the same of a run whose command line was read in some way
+  abbrev pub Ends : {O E : Type 0} → (O → Option (List ℕ)) → (E → Option (List ℕ)) → Ended
+      → Traces A U C → O → O → E → E → Type 0
+  Ends contents reported ends touched out out' err err' =
+      (read : Result (Option Asked) Error) × EndsAfter read contents reported ends touched out out' err err'

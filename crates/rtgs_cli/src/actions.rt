@@ -1,0 +1,55 @@
+//! Which run does what a request asks for.
+ghost use Rattle.std.specs.Prelude.{IfOk, IfErr};
+ghost use Rattle.rtgs_book_file.specs.OverFile.{file_from};
+ghost use Rattle.rtgs_cli_files.specs.Touching.{IsOf};
+ghost use Rattle.rtgs_cli.specs.Runs.{file_of, Denies, PrintsFor};
+
+use rtgs_book_file::{FileKeeper, Start};
+use rtgs_cli_arguments::Request;
+use rtgs_cli_commands::{answer, make_book, migrate_book};
+use rtgs_cli_files::{Acted, Used};
+use rtgs_cli_imports::{OrderFile, import};
+use rtgs_cli_readings::show;
+use rtgs_cli_serving::{NoPort, serve};
+use rtgs_http_server::Port;
+use rtgs_keeper::Keeper;
+use std::io::Write;
+use std::snapshot::Snapshot;
+
+/// What a run met beside the file of its book. It has no bytes: it is there for contracts.
+pub type RunUsed = Used<Snapshot<OrderFile>, Snapshot<Port>, Snapshot<NoPort>>;
+
+/// Does what was asked for, and prints what came of it. Where it is refused, nothing is printed but the rows of a
+/// statement before the one that was not read.
+pub fn act<S: Start, O: Write>(
+    rt: &HostRuntime,
+    request: &Request<'_>,
+    start: S,
+    out: &mut O,
+) -> Acted<S, RunUsed>
+    ensures printed { IfOk result.0 (λ printed. PrintsFor
+        (file_from ⟦<FileKeeper<S> as Keeper>⟧ S.Start (λ keeper. keeper.conn)) request.now result.1 printed
+        (O.contents out.old) (O.contents out.new)) }
+    ensures refused { IfErr result.0 (λ why. Denies (file_from ⟦<FileKeeper<S> as Keeper>⟧ S.Start
+        (λ keeper. keeper.conn)) O.contents request.now result.1 why out.old out.new) }
+    ensures at { IsOf (file_from ⟦<FileKeeper<S> as Keeper>⟧ S.Start (λ keeper. keeper.conn)) (file_of request.now)
+        result.1 }
+{
+    match *request {
+        Request::Make { file } => make_book(rt, file, start, out),
+        Request::Migrate { file } => migrate_book(rt, file, start, out),
+        Request::Submit { file, command } => answer(rt, file, command, start, out),
+        Request::Import {
+            file,
+            sender,
+            orders,
+        } => import(rt, file, sender, orders, start, out),
+        Request::Read { file, reading } => show(rt, file, reading, start, out),
+        Request::Serve {
+            file,
+            port,
+            count,
+            operator,
+        } => serve(rt, file, port, count, operator, start, out),
+    }
+}

@@ -1,0 +1,122 @@
+//! One run of the program.
+ghost use Rattle.std.specs.Prelude.{◌≡◌, ⊤, Result, IfOk, IfErr};
+ghost use Rattle.rtgs_book_file.specs.OverFile.{file_from};
+ghost use Rattle.clap.specs.Words.{kind_of};
+ghost use Rattle.rtgs_output.specs.declared.WriterFailed.{WriterFailed};
+ghost use Rattle.rtgs_cli_lines.specs.Failures.{failure_line as refusal_line};
+ghost use Rattle.rtgs_cli_lines.specs.SentTo.{IsSentTo};
+ghost use Rattle.rtgs_cli_files.specs.Printing.{ended_line};
+ghost use Rattle.rtgs_cli.specs.Runs.{AreExplained, Ends, EndsAfter, IsDenied, IsExplained, IsCarriedOut};
+
+use crate::actions::{RunUsed, act};
+use clap::Error;
+use clap::error::ErrorKind;
+use rtgs_book_file::{FileKeeper, Start};
+use rtgs_cli_arguments::{Asked, Request, Words, read_words};
+use rtgs_cli_files::{Acted, Touched, Traces};
+use rtgs_cli_lines::{Ended, Failure, Printed};
+use rtgs_keeper::Keeper;
+use rtgs_output::send_all;
+use rtgs_refusal_texts::print_texts;
+use rtgs_refusals::RefusalKind;
+use std::alloc::{AllocError, Global};
+use std::io::Write;
+
+/// Says what the command line itself has to say: help on standard output, a fault on standard error. Where memory was
+/// wanting, that is refused.
+fn explain<O: Write, E: Write>(alloc: Global, error: &Error, out: &mut O, err: &mut E) -> Ended
+    ensures { IsExplained (kind_of error.now) O.contents E.contents result out.old out.new err.old err.new }
+{
+    if error.kind() == ErrorKind::OutOfMemory {
+        return refused(Failure::from(AllocError), err);
+    }
+    match format!(in alloc; "{error}") {
+        Ok(text) if error.use_stderr() => Ended::Misused(send_all(err, text.as_bytes())),
+        Ok(text) => Ended::Helped(send_all(out, text.as_bytes())),
+        Err(error) => refused(Failure::from(error), err),
+    }
+}
+
+// Says what a refusal means, or each, on standard output.
+fn explain_refusals<O: Write>(which: Option<RefusalKind>, out: &mut O) -> Ended
+    ensures { AreExplained which O.contents result out.old out.new }
+{
+    match print_texts(which, out) {
+        Ok(()) => Ended::Helped(Ok(())),
+        Err(failed) => Ended::Helped(Err(failed)),
+    }
+}
+
+// Reports on standard error that a run is refused.
+fn refused<E: Write>(failure: Failure, err: &mut E) -> Ended
+    ensures { (sent : Result ⊤ WriterFailed) × (result ≡ Ended.Refused failure sent)
+        × IsSentTo sent (E.contents err.old) (E.contents err.new) (ended_line (refusal_line failure)) }
+{
+    Ended::Refused(failure, failure.print(err))
+}
+
+/// Reads the words' forms, and does what they ask for.
+fn carry_out<S: Start, O: Write>(
+    rt: &HostRuntime,
+    words: &Words<'_>,
+    start: S,
+    out: &mut O,
+) -> Acted<S, RunUsed>
+    ensures printed { IfOk result.0 (λ printed. IsCarriedOut
+        (file_from ⟦<FileKeeper<S> as Keeper>⟧ S.Start (λ keeper. keeper.conn)) words.now result.1 printed
+        (O.contents out.old) (O.contents out.new)) }
+    ensures refused { IfErr result.0 (λ why. IsDenied (file_from ⟦<FileKeeper<S> as Keeper>⟧ S.Start
+        (λ keeper. keeper.conn)) O.contents words.now result.1 why out.old out.new) }
+{
+    match Request::read(words) {
+        Ok(request) => act(rt, &request, start, out),
+        Err(form) => (Err(Failure::Form(form)), Touched::Nothing(start)),
+    }
+}
+
+/// Does what the words of a command line ask for that was read so, and tells how that ended, and what was touched.
+fn end<S: Start, O: Write, E: Write>(
+    rt: &HostRuntime,
+    read: Result<Option<Asked<'_>>, Error>,
+    start: S,
+    out: &mut O,
+    err: &mut E,
+) -> (Ended, Traces<S, RunUsed>)
+    ensures { EndsAfter (file_from ⟦<FileKeeper<S> as Keeper>⟧ S.Start (λ keeper. keeper.conn))
+        read.entry O.contents E.contents result.0 result.1 out.old out.new err.old err.new }
+{
+    match read {
+        Ok(Some(Asked::Run(words))) => {
+            let (acted, touched) = carry_out(rt, &words, start, out);
+            match acted {
+                Ok(printed) => (Ended::Printed(printed), touched),
+                Err(failure) => (refused(failure, err), touched),
+            }
+        }
+        Ok(Some(Asked::Refusals(which))) => {
+            (explain_refusals(which, out), Touched::Nothing(start))
+        }
+        Ok(None) => (Ended::Misused(Ok(())), Touched::Nothing(start)),
+        Err(error) => {
+            let ended = explain(rt.alloc(), &error, out, err);
+            (ended, Touched::Nothing(start))
+        }
+    }
+}
+
+/// One run of the program with the words after its name, over a book's file that held what `S` says. What was done and
+/// help are printed on `out`, refusals and faults of the command line on `err`, each line with its end. A statement is
+/// printed row by row, so that rows of it can stand on `out` where it is then refused. The result says what became of
+/// that, and has the exit status; and beside it stands what the run touched of the file.
+pub fn run_words<S: Start, O: Write, E: Write>(
+    rt: &HostRuntime,
+    words: &[&str],
+    start: S,
+    out: &mut O,
+    err: &mut E,
+) -> (Ended, Traces<S, RunUsed>)
+    ensures { Ends (file_from ⟦<FileKeeper<S> as Keeper>⟧ S.Start (λ keeper. keeper.conn))
+        O.contents E.contents result.0 result.1 out.old out.new err.old err.new }
+{
+    end(rt, read_words(rt.alloc(), words), start, out, err)
+}

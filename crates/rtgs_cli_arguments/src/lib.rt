@@ -1,0 +1,257 @@
+//! The arguments of the program, as the command line names them, and the request that they make (`requests`).
+#![tactic(auto)]
+
+ghost use Rattle.std.specs.Prelude.{◌≡◌, ◌++◌, IfOk, codes, false, true};
+ghost use Rattle.clap.specs.Words.{App, Shape, found_of, rows_of, rule_of, subcommand_rows_of, with_subcommand};
+ghost use Rattle.clap.specs.declared.parser.matches.ArgMatches.{ArgMatches as Found};
+ghost use Rattle.rtgs_cli_arguments.specs.Asked.{AreWordsOfRun, AsksFor, IsChosen, IsCommand, IsFlag};
+ghost use Rattle.rtgs_cli_arguments.specs.Asked.{AreWordsOfReading, IsWord};
+ghost use Rattle.rtgs_cli_arguments.specs.CommandLine as line;
+
+use crate::version::VERSION;
+use clap::{Arg, ArgAction, ArgMatches, Command, Error};
+use std::alloc::{AllocError, Global};
+
+mod accounts;
+mod asked;
+mod days;
+mod orders;
+mod readings;
+mod refusals;
+mod requests;
+mod serving;
+mod version;
+
+pub use crate::asked::Asked;
+
+/// The book's file, which each subcommand takes first.
+fn file_argument<'a>(alloc: Global) -> Arg<'a>
+    ensures rule { rule_of result ≡ line.file }
+    ensures local { result.global ≡ false }
+{
+    Arg::new(alloc, "file")
+        .value_name("FILE")
+        .help("The file of the book")
+        .required(true)
+        .action(ArgAction::Set)
+}
+
+/// A word that its own form judges, also where it begins with a dash.
+fn word_argument<'a>(alloc: Global, id: &'a str, shown: &'a str, help: &'a str) -> Arg<'a>
+    ensures rule { rule_of result ≡ line.word id.now }
+    ensures dash { result.allow_hyphen_values ≡ true }
+    ensures plain { rule_of (record result { allow_hyphen_values = false }) ≡ line.needed id.now }
+    ensures local { result.global ≡ false }
+{
+    Arg::new(alloc, id)
+        .value_name(shown)
+        .help(help)
+        .required(true)
+        .action(ArgAction::Set)
+        .allow_hyphen_values(true)
+}
+
+/// The code of a participant that is there.
+fn code_argument<'a>(alloc: Global) -> Arg<'a>
+    ensures rule { rule_of result ≡ line.word (codes "code") }
+    ensures local { result.global ≡ false }
+{
+    word_argument(alloc, "code", "CODE", "The participant")
+}
+
+/// The reference of an order that is there.
+fn reference_argument<'a>(alloc: Global) -> Arg<'a>
+    ensures rule { rule_of result ≡ line.word (codes "reference") }
+    ensures local { result.global ≡ false }
+{
+    word_argument(
+        alloc,
+        "reference",
+        "REFERENCE",
+        "The reference of the order",
+    )
+}
+
+fn date_argument<'a>(alloc: Global) -> Arg<'a>
+    ensures rule { rule_of result ≡ line.word (codes "date") }
+    ensures local { result.global ≡ false }
+{
+    word_argument(alloc, "date", "DATE", "The business date, as YYYY-MM-DD")
+}
+
+fn init_command<'a>(alloc: Global) -> Result<Command<'a>, AllocError>
+    ensures { IfOk result (line.IsSubcommand line.init) }
+{
+    Command::new(alloc, "init")
+        .about("Makes a new book, without participants")
+        .arg(file_argument(alloc))
+}
+
+fn migrate_command<'a>(alloc: Global) -> Result<Command<'a>, AllocError>
+    ensures { IfOk result (line.IsSubcommand line.migrate) }
+{
+    Command::new(alloc, "migrate")
+        .about("Brings the tables of a book to the newest version")
+        .arg(file_argument(alloc))
+}
+
+/// A command with one more subcommand.
+fn joined<'a>(
+    command: Command<'a>,
+    subcommand: Result<Command<'a>, AllocError>,
+) -> Result<Command<'a>, AllocError>
+    ensures { (above : App) (below : Shape) → line.IsLine above command.entry
+        → IfOk subcommand.entry (line.IsSubcommand below) → IfOk result (line.IsLine (with_subcommand above below)) }
+{
+    command.subcommand(subcommand?)
+}
+
+/// The command line of the desk, without its subcommands.
+fn bare_command<'a>(alloc: Global) -> Result<Command<'a>, AllocError>
+    ensures { IfOk result (line.IsSubcommand line.program) }
+{
+    let desk = Command::new(alloc, "desk")
+        .about("The settlement desk of a central bank")
+        .version(VERSION)
+        .bin_name("desk")?;
+    Ok(desk.no_binary_name(true).subcommand_required(true))
+}
+
+/// The command line of the desk, with the subcommands of participants.
+fn with_participants<'a>(alloc: Global) -> Result<Command<'a>, AllocError>
+    ensures { IfOk result (line.IsLine (line.desk_with line.of_participants)) }
+{
+    let desk = bare_command(alloc)?;
+    let desk = joined(desk, init_command(alloc))?;
+    let desk = joined(desk, migrate_command(alloc))?;
+    let desk = joined(desk, accounts::add_command(alloc))?;
+    let desk = joined(desk, accounts::credit_command(alloc))?;
+    joined(desk, accounts::post_command(alloc))
+}
+
+/// The command line of the desk, with the subcommands of a business day too.
+fn with_days<'a>(alloc: Global) -> Result<Command<'a>, AllocError>
+    ensures { IfOk result (line.IsLine (line.desk_with (line.of_participants ++ line.of_days))) }
+{
+    let desk = with_participants(alloc)?;
+    let desk = joined(desk, days::open_command(alloc))?;
+    let desk = joined(desk, orders::import_command(alloc))?;
+    let desk = joined(desk, orders::withdraw_command(alloc))?;
+    let desk = joined(desk, days::resolve_command(alloc))?;
+    let desk = joined(desk, days::cut_off_command(alloc))?;
+    joined(desk, days::close_command(alloc))
+}
+
+/// The command line of the desk, with all its subcommands.
+fn desk_command<'a>(alloc: Global) -> Result<Command<'a>, AllocError>
+    ensures { IfOk result (line.IsLine line.desk) }
+{
+    let desk = with_days(alloc)?;
+    let desk = joined(desk, readings::account_command(alloc))?;
+    let desk = joined(desk, readings::accounts_command(alloc))?;
+    let desk = joined(desk, readings::queue_command(alloc))?;
+    let desk = joined(desk, readings::order_command(alloc))?;
+    let desk = joined(desk, readings::statement_command(alloc))?;
+    let desk = joined(desk, readings::report_command(alloc))?;
+    let desk = joined(desk, serving::serve_command(alloc))?;
+    joined(desk, refusals::explain_command(alloc))
+}
+
+/// The word that was given for an argument. One that is missing reads as no characters, which no form takes.
+fn word<'a>(matches: &ArgMatches<'a>, id: &str) -> &'a str
+    ensures { IsWord (rows_of (found_of matches.now)) id.now result }
+{
+    matches.get_str(id).unwrap_or("")
+}
+
+/// Whether a flag was given.
+fn flag(matches: &ArgMatches<'_>, id: &str) -> bool
+    ensures { IsFlag (rows_of (found_of matches.now)) id.now result }
+{
+    matches.get_flag(id)
+}
+
+/// The book's file, as it was given.
+fn file_word<'a>(matches: &ArgMatches<'a>) -> &'a str
+    ensures { IsWord (rows_of (found_of matches.now)) (codes "file") result }
+{
+    word(matches, "file")
+}
+
+fn command_words<'a>(name: &str, given: &ArgMatches<'a>) -> Option<CommandWords<'a>>
+    ensures { IsChosen (IsCommand name.now (rows_of (found_of given.now))) result }
+{
+    match name {
+        "add" => Some(accounts::add_words(given)),
+        "credit" => Some(accounts::credit_words(given)),
+        "post" => Some(accounts::post_words(given)),
+        "withdraw" => Some(orders::withdraw_words(given)),
+        "open" => Some(days::open_words(given)),
+        "resolve" => Some(CommandWords::Resolve),
+        "cutoff" => Some(days::cut_off_words(given)),
+        "close" => Some(days::close_words(given)),
+        _ => None,
+    }
+}
+
+fn reading_words<'a>(name: &str, given: &ArgMatches<'a>) -> Option<ReadingWords<'a>>
+    ensures { IsChosen (AreWordsOfReading name.now (rows_of (found_of given.now))) result }
+{
+    match name {
+        "account" => Some(readings::account_words(given)),
+        "accounts" => Some(ReadingWords::Accounts),
+        "queue" => Some(readings::queue_words(given)),
+        "order" => Some(readings::order_words(given)),
+        "statement" => Some(readings::statement_words(given)),
+        "report" => Some(readings::report_words(given)),
+        _ => None,
+    }
+}
+
+/// The words of a run.
+fn words_of<'a>(name: &str, given: &ArgMatches<'a>) -> Option<Words<'a>>
+    ensures { IsChosen (AreWordsOfRun name.now (rows_of (found_of given.now))) result }
+{
+    let file = file_word(given);
+    match name {
+        "init" => Some(Words::Init { file }),
+        "migrate" => Some(Words::Migrate { file }),
+        "import" => Some(orders::import_words(given)),
+        "serve" => serving::serve_words(given),
+        _ => match reading_words(name, given) {
+            Some(reading) => Some(Words::Read { file, reading }),
+            None => Some(Words::Submit {
+                file,
+                command: command_words(name, given)?,
+            }),
+        },
+    }
+}
+
+/// What the matches ask for. The number of no refusal is a fault of the command line.
+fn asked_of<'a>(alloc: Global, matches: &ArgMatches<'a>) -> Result<Option<Asked<'a>>, Error>
+    ensures { IfOk result (AsksFor (subcommand_rows_of matches.now)) }
+{
+    let Some((name, given)) = matches.subcommand() else {
+        return Ok(None);
+    };
+    if name == "explain" {
+        let which = refusals::named_refusal(alloc, given)?;
+        return Ok(Some(Asked::Refusals(which)));
+    }
+    match words_of(name, given) {
+        Some(words) => Ok(Some(Asked::Run(words))),
+        None => Ok(None),
+    }
+}
+
+/// What the words ask for, or the fault or the help of the command line.
+pub fn read_words<'a>(alloc: Global, words: &'a [&'a str]) -> Result<Option<Asked<'a>>, Error>
+    ensures { IfOk result (λ asked. (found : Found) × line.MeetsOne found × AsksFor (subcommand_rows_of found)
+        asked) }
+{
+    let matches = desk_command(alloc)?.try_get_matches_from(words)?;
+    asked_of(alloc, &matches)
+}
+
+pub use crate::requests::{CommandWords, ReadingWords, Request, Words};

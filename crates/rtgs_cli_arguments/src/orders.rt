@@ -1,0 +1,54 @@
+//! Files of orders and withdrawals, as the command line names them.
+ghost use Rattle.std.specs.Prelude.{IfOk, codes};
+ghost use Rattle.clap.specs.Words.{found_of, rows_of};
+ghost use Rattle.rtgs_cli_arguments.specs.Asked.{AreWordsOfRun, IsCommand};
+ghost use Rattle.rtgs_cli_arguments.specs.CommandLine as line;
+
+use crate::requests::{CommandWords, Words};
+use crate::{code_argument, file_argument, file_word, reference_argument, word, word_argument};
+use clap::{ArgMatches, Command};
+use std::alloc::{AllocError, Global};
+
+/// The subcommand that submits a file of orders: a book's file, a participant and the file of orders.
+pub fn import_command<'a>(alloc: Global) -> Result<Command<'a>, AllocError>
+    ensures { IfOk result (line.IsSubcommand line.import_orders) }
+{
+    let orders = "The file of orders, as CSV";
+    Command::new(alloc, "import")
+        .about("Submits a participant's file of orders")
+        .arg(file_argument(alloc))?
+        .arg(code_argument(alloc))?
+        .arg(word_argument(alloc, "orders", "ORDERS", orders))
+}
+
+/// The book's file, the participant and the file of orders, as they were given.
+pub fn import_words<'a>(given: &ArgMatches<'a>) -> Words<'a>
+    ensures { AreWordsOfRun (codes "import") (rows_of (found_of given.now)) result }
+{
+    Words::Import {
+        file: file_word(given),
+        code: word(given, "code"),
+        orders: word(given, "orders"),
+    }
+}
+
+/// The subcommand that takes back an order that is queued or held: a book's file, its sender and its reference.
+pub fn withdraw_command<'a>(alloc: Global) -> Result<Command<'a>, AllocError>
+    ensures { IfOk result (line.IsSubcommand line.withdraw) }
+{
+    Command::new(alloc, "withdraw")
+        .about("Takes back an order that is queued or held")
+        .arg(file_argument(alloc))?
+        .arg(code_argument(alloc))?
+        .arg(reference_argument(alloc))
+}
+
+/// The sender and the reference of an order, as they were given.
+pub fn withdraw_words<'a>(given: &ArgMatches<'a>) -> CommandWords<'a>
+    ensures { IsCommand (codes "withdraw") (rows_of (found_of given.now)) result }
+{
+    CommandWords::Withdraw {
+        code: word(given, "code"),
+        reference: word(given, "reference"),
+    }
+}

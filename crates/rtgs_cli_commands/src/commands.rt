@@ -1,0 +1,147 @@
+//! Runs that give the desk one command, and print the line of what was done; and the runs that make a book, and that
+//! bring its tables to the newest version.
+ghost use Rattle.std.specs.Prelude.{◌≡◌, true, None, Ok, Err, IfOk, IfErr, OnErr, string_bytes};
+ghost use Rattle.rtgs_book_file.specs.Files.{lock_name};
+ghost use Rattle.rtgs_book_file.specs.OverFile.{file_from};
+ghost use Rattle.rtgs_desk.specs.Replies.{IsOfItsKind};
+ghost use Rattle.rtgs_cli_commands.specs.Commands.{HasAnswered, HasMade, HasMigrated, IsNotAnswered, IsSubmitted};
+ghost use Rattle.rtgs_cli_commands.specs.Commands.{done_by_migration};
+ghost use Rattle.rtgs_cli_files.specs.Printing.{ended_line, PrintsText};
+ghost use Rattle.rtgs_cli_files.specs.Touching.{IsNoBookMade, IsNotMigrated, IsOf};
+ghost use Rattle.rtgs_cli_lines.specs.Lines.{done_line};
+ghost use Rattle.rtgs_cli_lines.specs.Texts.{Prints};
+
+use rtgs_book::{Command, Refusal, WholeAnswer};
+use rtgs_book_file::{FileKeeper, Start};
+use rtgs_cli_files::{
+    Acted, Finished, Touched, Used, close_book, failure_of_unopened, make, migrate, open,
+};
+use rtgs_cli_lines::{Done, Failure, Printed};
+use rtgs_keeper::Keeper;
+use std::io::Write;
+
+/// Makes a new book in a file, and says so.
+pub fn make_book<S: Start, O: Write, F, P, N>(
+    rt: &HostRuntime,
+    file: &str,
+    start: S,
+    out: &mut O,
+) -> Acted<S, Used<F, P, N>>
+    ensures printed { IfOk result.0 (λ printed. PrintsText
+        (HasMade (file_from ⟦<FileKeeper<S> as Keeper>⟧ S.Start (λ keeper. keeper.conn)) result.1) printed
+        (O.contents out.old) (O.contents out.new)) }
+    ensures refused { IfErr result.0
+        (IsNoBookMade (file_from ⟦<FileKeeper<S> as Keeper>⟧ S.Start (λ keeper. keeper.conn)) result.1) }
+    ensures unchanged { OnErr result.0 (out.new ≡ out.old) }
+    ensures at { IsOf (file_from ⟦<FileKeeper<S> as Keeper>⟧ S.Start (λ keeper. keeper.conn)) file.now result.1 }
+{
+    match make(rt, file, start) {
+        Ok(made) => (Ok(say(Done::Made, out)), Touched::Book(made, Used::Nothing)),
+        Err(unmade) => (Err(failure_of_unopened(&unmade)), Touched::Refused(unmade)),
+    }
+}
+
+/// Brings the tables of the book in a file to the newest version, and says whether anything was written.
+pub fn migrate_book<S: Start, O: Write, F, P, N>(
+    rt: &HostRuntime,
+    file: &str,
+    start: S,
+    out: &mut O,
+) -> Acted<S, Used<F, P, N>>
+    ensures printed { IfOk result.0 (λ printed. PrintsText
+        (HasMigrated (file_from ⟦<FileKeeper<S> as Keeper>⟧ S.Start (λ keeper. keeper.conn)) result.1) printed
+        (O.contents out.old) (O.contents out.new)) }
+    ensures refused { IfErr result.0
+        (IsNotMigrated (file_from ⟦<FileKeeper<S> as Keeper>⟧ S.Start (λ keeper. keeper.conn)) result.1) }
+    ensures unchanged { OnErr result.0 (out.new ≡ out.old) }
+    ensures at { IsOf (file_from ⟦<FileKeeper<S> as Keeper>⟧ S.Start (λ keeper. keeper.conn)) file.now result.1 }
+{
+    match migrate(rt, file, start) {
+        Ok((migrated, wrote)) => (
+            Ok(say(migration(wrote), out)),
+            Touched::Book(migrated, Used::Nothing),
+        ),
+        Err(unmigrated) => (
+            Err(failure_of_unopened(&unmigrated)),
+            Touched::Refused(unmigrated),
+        ),
+    }
+}
+
+/// Gives the desk over a file one command, and prints its answer.
+pub fn answer<S: Start, O: Write, F, P, N>(
+    rt: &HostRuntime,
+    file: &str,
+    command: Command,
+    start: S,
+    out: &mut O,
+) -> Acted<S, Used<F, P, N>>
+    ensures printed { IfOk result.0 (λ printed. PrintsText
+        (HasAnswered (file_from ⟦<FileKeeper<S> as Keeper>⟧ S.Start (λ keeper. keeper.conn)) command result.1) printed
+        (O.contents out.old) (O.contents out.new)) }
+    ensures refused { IfErr result.0
+        (IsNotAnswered (file_from ⟦<FileKeeper<S> as Keeper>⟧ S.Start (λ keeper. keeper.conn)) command result.1) }
+    ensures unchanged { OnErr result.0 (out.new ≡ out.old) }
+    ensures at { IsOf (file_from ⟦<FileKeeper<S> as Keeper>⟧ S.Start (λ keeper. keeper.conn)) file.now result.1 }
+{
+    match close_book(submit(rt, file, command, start)) {
+        Ok((closed, reply)) => (print(reply, out), Touched::Book(closed, Used::Nothing)),
+        Err(unopened) => (
+            Err(failure_of_unopened(&unopened)),
+            Touched::Refused(unopened),
+        ),
+    }
+}
+
+// Opens the book in a file, and gives its desk one command.
+fn submit<S: Start>(
+    rt: &HostRuntime,
+    file: &str,
+    command: Command,
+    start: S,
+) -> Finished<S, Result<WholeAnswer, Refusal>>
+    ensures replied { IfOk result (λ (book, reply). IsSubmitted
+        (file_from ⟦<FileKeeper<S> as Keeper>⟧ S.Start (λ keeper. keeper.conn)) command reply book.desk) }
+    ensures of_its_kind { IfOk result (λ (_, reply). IfOk reply (IsOfItsKind command)) }
+    ensures unopened { IfErr result (λ unopened.
+        (file_from ⟦<FileKeeper<S> as Keeper>⟧ S.Start (λ keeper. keeper.conn)).was_unopened unopened) }
+    ensures at { IfOk result (λ (book, _). string_bytes book.lock.locked.name ≡ lock_name file.now) }
+    ensures of { IfErr result (λ unopened.
+        (file_from ⟦<FileKeeper<S> as Keeper>⟧ S.Start (λ keeper. keeper.conn)).refused_at file.now unopened) }
+{
+    let mut book = open(rt, file, start)?;
+    let reply = rtgs_book_file::stored_desk::submit(book.desk(), command);
+    Ok((book.finish(), reply))
+}
+
+// Prints what the desk answered. Where it refused the command, nothing is printed.
+fn print<O: Write>(reply: Result<WholeAnswer, Refusal>, out: &mut O) -> Result<Printed, Failure>
+    ensures printed { IfOk result (λ printed. (answer : _) × (reply ≡ Ok answer)
+        × Prints (ended_line (done_line (Done.Answered answer))) None printed (O.contents out.old)
+        (O.contents out.new)) }
+    ensures refused { IfErr result (λ why. (refusal : _) × (reply ≡ Err refusal) × (why ≡ Failure.Refused refusal)) }
+    ensures unchanged { OnErr result (out.new ≡ out.old) }
+{
+    match reply {
+        Ok(answer) => Ok(say(Done::Answered(answer), out)),
+        Err(refusal) => Err(Failure::Refused(refusal)),
+    }
+}
+
+// What a migration did: it wrote, or there was nothing to write.
+fn migration(wrote: bool) -> Done
+    ensures { result ≡ done_by_migration wrote }
+{
+    if wrote {
+        Done::Migrated
+    } else {
+        Done::Repeated
+    }
+}
+
+// Prints the line of what was done.
+fn say<O: Write>(done: Done, out: &mut O) -> Printed
+    ensures { Prints (ended_line (done_line done)) None result (O.contents out.old) (O.contents out.new) }
+{
+    Printed::sent(done.print(out))
+}

@@ -1,0 +1,136 @@
+//! The run that submits a file of orders, from the file's bytes to the printed results.
+ghost use Rattle.std.specs.Prelude.{◌≡◌, ◌⊎◌, length, Ok, Err, IfOk, IfErr, OnErr, string_bytes};
+ghost use Rattle.rtgs_book_file.specs.Files.{lock_name};
+ghost use Rattle.rtgs_book_file.specs.OverFile.{file_from};
+ghost use Rattle.rtgs_book.specs.declared.book.Book.{Book};
+ghost use Rattle.rtgs_desk.specs.Holding.{Holds};
+ghost use Rattle.rtgs_desk.specs.batches.Batches.{StopsAfter};
+ghost use Rattle.rtgs_order_files.specs.Results.{results_text};
+ghost use Rattle.rtgs_book.specs.declared.refusal.Refusal.{Refusal};
+ghost use Rattle.rtgs_cli_lines.specs.Texts.{Prints};
+ghost use Rattle.rtgs_cli_files.specs.Done.{IsIdle};
+ghost use Rattle.rtgs_cli_files.specs.Printing.{PrintsText};
+ghost use Rattle.rtgs_cli_files.specs.Touching.{IsOf};
+ghost use Rattle.rtgs_cli_imports.specs.Causes.{AreRowsOf, RefusesRows};
+ghost use Rattle.rtgs_cli_imports.specs.Imports.{HasSent, IsNotImported, IsSent, SentOver};
+
+use crate::batches::{print_results, submit_orders};
+use crate::order_file::OrderFile;
+use rtgs_book_file::stored_desk::laws::what_a_session_leaves;
+use rtgs_book_file::{FileKeeper, Start};
+use rtgs_cli_files::{Acted, Finished, Touched, Used, close_book, failure_of_unopened, open};
+use rtgs_cli_lines::{Failure, Printed};
+use rtgs_desk::Desk;
+use rtgs_keeper::Keeper;
+use rtgs_money::Code;
+use rtgs_order_files::{BatchResult, OrderRow};
+use std::alloc::Global;
+use std::io::Write;
+use std::snapshot::Snapshot;
+
+// The rows of a file of orders with their results, or why they were not submitted.
+type Sent = Result<(Vec<OrderRow>, BatchResult), Failure>;
+
+/// Submits a participant's file of orders to the desk over a file, and prints the results. A batch that stopped ends
+/// the run as stopped. Where memory is wanting for the results, the orders stand, and nothing is printed.
+pub fn import<S: Start, O: Write, P, N>(
+    rt: &HostRuntime,
+    file: &str,
+    sender: Code,
+    orders: &str,
+    start: S,
+    out: &mut O,
+) -> Acted<S, Used<Snapshot<OrderFile>, P, N>>
+    ensures printed { IfOk result.0 (λ printed. PrintsText
+        (HasSent (file_from ⟦<FileKeeper<S> as Keeper>⟧ S.Start (λ keeper. keeper.conn)) sender result.1) printed
+        (O.contents out.old) (O.contents out.new)) }
+    ensures refused { IfErr result.0
+        (IsNotImported (file_from ⟦<FileKeeper<S> as Keeper>⟧ S.Start (λ keeper. keeper.conn)) sender result.1) }
+    ensures unchanged { OnErr result.0 (out.new ≡ out.old) }
+    ensures at { IsOf (file_from ⟦<FileKeeper<S> as Keeper>⟧ S.Start (λ keeper. keeper.conn)) file.now result.1 }
+{
+    match close_book(send(rt, file, sender, orders, start)) {
+        Ok((closed, done)) => {
+            let (sent, read) = done;
+            (
+                print_sent(rt, sent, out),
+                Touched::Book(closed, Used::Orders(read)),
+            )
+        }
+        Err(unopened) => (
+            Err(failure_of_unopened(&unopened)),
+            Touched::Refused(unopened),
+        ),
+    }
+}
+
+// Opens the book in a file, and submits a participant's file of orders to its desk, as it was read.
+fn send<S: Start>(
+    rt: &HostRuntime,
+    file: &str,
+    sender: Code,
+    orders: &str,
+    start: S,
+) -> Finished<S, (Sent, Snapshot<OrderFile>)>
+    ensures rows { IfOk result (λ (_, done). IfOk done.0 (λ (rows, batch).
+        AreRowsOf (λ bytes. bytes.items) done.1.value.answer rows.items)) }
+    ensures stopped { IfOk result (λ (_, done). IfOk done.0 (λ (rows, batch).
+        StopsAfter (length batch.replies.items) (length rows.items) batch.stopped)) }
+    ensures sent { IfOk result (λ (book, done). IfOk done.0 (λ (rows, batch). IsSent
+        (file_from ⟦<FileKeeper<S> as Keeper>⟧ S.Start
+        (λ keeper. keeper.conn)) sender rows.items batch.replies.items batch.stopped book.desk)) }
+    ensures refused { IfOk result (λ (book, done). IfErr done.0 (λ why.
+        RefusesRows (λ bytes. bytes.items) done.1.value.answer why
+        × IsIdle (file_from ⟦<FileKeeper<S> as Keeper>⟧ S.Start (λ keeper. keeper.conn)) book.desk)) }
+    ensures unopened { IfErr result (λ unopened.
+        (file_from ⟦<FileKeeper<S> as Keeper>⟧ S.Start (λ keeper. keeper.conn)).was_unopened unopened) }
+    ensures at { IfOk result (λ (book, _). string_bytes book.lock.locked.name ≡ lock_name file.now) }
+    ensures of { IfErr result (λ unopened.
+        (file_from ⟦<FileKeeper<S> as Keeper>⟧ S.Start (λ keeper. keeper.conn)).refused_at file.now unopened) }
+{
+    let mut book = open(rt, file, start)?;
+    let read = OrderFile::read(rt, orders);
+    let answer = Snapshot::of(&read);
+    let sent = submit_file(rt.alloc(), book.desk(), sender, read);
+    Ok((book.finish(), (sent, answer)))
+}
+
+// Submits the orders of a file that was read so.
+fn submit_file<S: Start>(
+    alloc: Global,
+    desk: &mut Desk<FileKeeper<S>>,
+    sender: Code,
+    read: OrderFile,
+) -> Sent
+    ensures rows { IfOk result (λ (rows, batch). AreRowsOf (λ bytes. bytes.items) read.answer rows.items) }
+    ensures stopped { IfOk result (λ (rows, batch).
+        StopsAfter (length batch.replies.items) (length rows.items) batch.stopped) }
+    ensures sent { IfOk result (λ (rows, batch). ⟦<FileKeeper<S> as Keeper>⟧.is_honest desk.new.keeper
+        → (book : Book) → Holds ⟦<FileKeeper<S> as Keeper>⟧ desk.old book
+        → SentOver (file_from ⟦<FileKeeper<S> as Keeper>⟧ S.Start (λ keeper. keeper.conn))
+        book sender rows.items batch.replies.items batch.stopped desk.new) }
+    ensures refused { IfErr result (RefusesRows (λ bytes. bytes.items) read.answer) }
+    ensures unchanged { OnErr result (desk.new ≡ desk.old) }
+    ensures honest { ⟦<FileKeeper<S> as Keeper>⟧.is_honest desk.new.keeper
+        → ⟦<FileKeeper<S> as Keeper>⟧.is_honest desk.old.keeper }
+{
+    let bytes = read.taken()?;
+    let sent = submit_orders(alloc, desk, sender, bytes.as_slice());
+    what_a_session_leaves(desk);
+    sent
+}
+
+// Prints the results of orders that were sent. Where they were refused, nothing is printed.
+fn print_sent<O: Write>(rt: &HostRuntime, sent: Sent, out: &mut O) -> Result<Printed, Failure>
+    ensures printed { IfOk result (λ printed. (it : _) × (sent ≡ Ok it)
+        × Prints (results_text it.0.items it.1.replies.items it.1.stopped) it.1.stopped printed (O.contents out.old)
+        (O.contents out.new)) }
+    ensures refused { IfErr result (λ why. (sent ≡ Err why)
+        ⊎ ((it : _) × (sent ≡ Ok it) × (why ≡ Failure.Refused Refusal.OutOfMemory))) }
+    ensures unchanged { OnErr result (out.new ≡ out.old) }
+{
+    match sent {
+        Ok((rows, batch)) => print_results(rt.alloc(), out, rows.as_slice(), &batch),
+        Err(failure) => Err(failure),
+    }
+}

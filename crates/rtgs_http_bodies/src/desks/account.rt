@@ -1,0 +1,130 @@
+//! What a participant is shown of its account.
+ghost use Rattle.std.specs.Prelude.{◌≡◌, FitsSigned, Some, None, IfOk};
+ghost use Rattle.std.specs.Int.{w64};
+ghost use Rattle.serde_json.specs.View.{view};
+ghost use Rattle.serde_json.specs.Written.{compact_text};
+ghost use Rattle.rtgs_http_bodies.specs.desks.Accounts.{account_data, account_with, phase_name};
+ghost use Rattle.rtgs_http_bodies.specs.replies.Messages.{json_message};
+
+use crate::replies::{ContentType, Reply};
+use http::StatusCode;
+use rtgs_book::Phase;
+use rtgs_desk::AccountReading;
+use rtgs_money::BusinessDate;
+use serde_json::{Value, json};
+use std::alloc::{AllocError, Global};
+
+/// The reply that tells a participant its account. The only error is lack of memory.
+pub fn account_reply(alloc: Global, reading: &AccountReading) -> Result<Reply, AllocError>
+    ensures { FitsSigned w64 reading.now.queued_value
+        → IfOk result (λ reply. reply ≡ json_message 200 (account_data reading.now)) }
+{
+    let text = account_text(alloc, reading)?;
+    Reply::new(alloc, StatusCode::OK, ContentType::Json, text.as_slice())
+}
+
+/// What a participant is shown of its account, as JSON, with the date once a day was opened. What its queue pays
+/// together is shown up to 2^63 - 1 cents, and no queue of a desk pays more. The only error is lack of memory.
+pub fn account_text(alloc: Global, reading: &AccountReading) -> Result<Vec<u8>, AllocError>
+    ensures { FitsSigned w64 reading.now.queued_value
+        → IfOk result (λ text. text.items ≡ compact_text (account_data reading.now)) }
+{
+    let queued_value = queued_in_64_bits(reading);
+    let value = account_value(alloc, reading, queued_value)?;
+    value.to_vec(alloc)
+}
+
+/// What the orders of an account's queue pay together, in cents, where 64 bits hold it.
+pub(in crate::desks) fn queued_in_64_bits(reading: &AccountReading) -> i64
+    ensures { FitsSigned w64 reading.now.queued_value → result ≡ reading.now.queued_value }
+{
+    in_64_bits(reading.queued_value.cents())
+}
+
+// So many cents, where 64 bits hold them, and else the most that they hold.
+fn in_64_bits(cents: i128) -> i64
+    ensures { FitsSigned w64 cents → result ≡ cents }
+{
+    i64::try_from(cents).unwrap_or(i64::MAX)
+}
+
+// The JSON value of an account, with the date once a day was opened.
+fn account_value(
+    alloc: Global,
+    reading: &AccountReading,
+    queued_value: i64,
+) -> Result<Value, AllocError>
+    ensures { IfOk result (λ value. view value ≡ account_with queued_value reading.now) }
+{
+    match reading.day.date {
+        Some(date) => dated_value(alloc, reading, queued_value, date),
+        None => undated_value(alloc, reading, queued_value),
+    }
+}
+
+// The JSON value of an account on this date.
+fn dated_value(
+    alloc: Global,
+    reading: &AccountReading,
+    queued_value: i64,
+    date: BusinessDate,
+) -> Result<Value, AllocError>
+    requires { reading.now.day.date ≡ Some date }
+    ensures { IfOk result (λ value. view value ≡ account_with queued_value reading.now) }
+{
+    let balance = reading.balance.cents();
+    let code = reading.participant.code.as_str();
+    let credit = reading.participant.credit.cents();
+    let date = date.text();
+    let date = date.as_str();
+    let name = reading.participant.name.as_str();
+    let phase = phase_name(reading.day.phase);
+    let queued = reading.queued;
+    json!(in alloc; {
+        "balance": balance,
+        "code": code,
+        "credit": credit,
+        "date": date,
+        "name": name,
+        "phase": phase,
+        "queued": queued,
+        "queued_value": queued_value
+    })
+}
+
+// The JSON value of an account before the first day.
+fn undated_value(
+    alloc: Global,
+    reading: &AccountReading,
+    queued_value: i64,
+) -> Result<Value, AllocError>
+    requires { reading.now.day.date ≡ None }
+    ensures { IfOk result (λ value. view value ≡ account_with queued_value reading.now) }
+{
+    let balance = reading.balance.cents();
+    let code = reading.participant.code.as_str();
+    let credit = reading.participant.credit.cents();
+    let name = reading.participant.name.as_str();
+    let phase = phase_name(reading.day.phase);
+    let queued = reading.queued;
+    json!(in alloc; {
+        "balance": balance,
+        "code": code,
+        "credit": credit,
+        "name": name,
+        "phase": phase,
+        "queued": queued,
+        "queued_value": queued_value
+    })
+}
+
+/// The name of a phase.
+pub(in crate::desks) fn phase_name(phase: Phase) -> &'static str
+    ensures { result.now ≡ phase_name phase }
+{
+    match phase {
+        Phase::Closed => "CLOSED",
+        Phase::Open => "OPEN",
+        Phase::CutOff => "CUTOFF",
+    }
+}

@@ -1,4 +1,0 @@
-//! How much is asked of a reader at once.
-
-/// The most bytes that a reader is asked for at once.
-pub(crate) const PIECE: usize = 4096;

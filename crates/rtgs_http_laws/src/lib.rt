@@ -1,5 +1,0 @@
-//! Laws of requests and their replies, over the definitions by which `serve_one` of `rtgs_http_banks` replies: a
-//! participant is shown its own rows alone, a reply is determined, and what comes again is answered as a repeat.
-#![tactic(auto)]
-
-pub mod laws;

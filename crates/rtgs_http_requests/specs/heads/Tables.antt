@@ -1,0 +1,65 @@
+-- The tables of routes, as `matchit` reads their texts.
+use Rattle.std.specs.Prelude.{ℕ, List, [], ◌∷◌, Result, Ok, Err, Option, option_map, codes}
+use Rattle.matchit.specs.Route.{Scan, parse_route}
+use Rattle.matchit.specs.Router.{RouteOf, route_from}
+use Rattle.matchit.specs.Rows.{RowsOf}
+use Rattle.matchit.specs.Order.{placed}
+use Rattle.matchit.specs.Params.{walk}
+use Rattle.matchit.specs.Seek.{first}
+use Rattle.matchit.specs.declared.error.InsertError.{InsertError}
+use Rattle.rtgs_http_requests.specs.declared.heads.route.Route.{Route}
+use Rattle.rtgs_http_requests.specs.declared.heads.route.Route.TheVariants.{Bank, Operator}
+use Rattle.rtgs_http_requests.specs.declared.heads.bank_route.BankRoute.TheVariants.{SendOrder, WithdrawOrder}
+use Rattle.rtgs_http_requests.specs.declared.heads.bank_route.BankRoute.TheVariants.{SendBatch}
+use Rattle.rtgs_http_requests.specs.declared.heads.bank_route.BankRoute.TheVariants.{ReadOrder, ReadAccount, ReadQueue}
+use Rattle.rtgs_http_requests.specs.declared.heads.bank_route.BankRoute.TheVariants.{ReadStatement}
+use Rattle.rtgs_http_requests.specs.declared.heads.operator_route.OperatorRoute.TheVariants.{Post, SetCredit, OpenDay}
+use Rattle.rtgs_http_requests.specs.declared.heads.operator_route.OperatorRoute.TheVariants.{Resolve, CutOff, CloseDay}
+use Rattle.rtgs_http_requests.specs.declared.heads.operator_route.OperatorRoute.TheVariants.{ReadReport, ReadAccounts}
+
+-- a path, with a name in braces where a parameter stands, and its route
+abbrev pub Paths : Type 0
+Paths = List (List ℕ × Route)
+
+abbrev pub read_paths : Paths
+read_paths =
+    (codes "/orders/{reference}", Bank ReadOrder)
+    ∷ (codes "/account", Bank ReadAccount)
+    ∷ (codes "/queue", Bank ReadQueue)
+    ∷ (codes "/statements/{date}", Bank ReadStatement)
+    ∷ (codes "/desk/report/{date}", Operator ReadReport)
+    ∷ (codes "/desk/accounts", Operator ReadAccounts)
+    ∷ []
+
+abbrev pub command_paths : Paths
+command_paths =
+    (codes "/orders", Bank SendOrder)
+    ∷ (codes "/orders/{reference}/withdraw", Bank WithdrawOrder)
+    ∷ (codes "/batches", Bank SendBatch)
+    ∷ (codes "/desk/post", Operator Post)
+    ∷ (codes "/desk/credit", Operator SetCredit)
+    ∷ (codes "/desk/open", Operator OpenDay)
+    ∷ (codes "/desk/resolve", Operator Resolve)
+    ∷ (codes "/desk/cutoff", Operator CutOff)
+    ∷ (codes "/desk/close", Operator CloseDay)
+    ∷ []
+
+abbrev pub with_path : Result Scan InsertError → Route → RowsOf (RouteOf Route) → RowsOf (RouteOf Route)
+with_path (Ok scan) route rows = placed (scan.pattern, route_from scan route) rows
+with_path (Err fault) route rows = rows
+
+-- the rows of a router that holds these paths
+abbrev pub holding : Paths → RowsOf (RouteOf Route)
+holding [] = []
+holding (path ∷ paths) = with_path (parse_route path.0) path.1 (holding paths)
+
+-- what the first parameter took
+abbrev pub first_part : List (List ℕ × List ℕ) → List ℕ
+first_part [] = []
+first_part (part ∷ parts) = part.1
+
+-- the route whose path the target matches, and what its parameter took of the target
+abbrev pub found_in : RowsOf (RouteOf Route) → List ℕ → Option (Route × List ℕ)
+found_in rows target =
+    option_map (λ found. (found.value, first_part (walk found.pattern found.text target found.names 0 0)))
+    (first rows target)

@@ -1,0 +1,82 @@
+//! The tables of routes.
+//!
+//! To add a route, add its variant and path to `BankRoute` or `OperatorRoute`, and a line here and in
+//! `specs/Tables.antt`. The compiler does not see a variant without a line: a request for it would find no route. A
+//! line in `whole_paths.rt` spares a path without a parameter these tables.
+ghost use Rattle.std.specs.Prelude.{◌≡◌, IfOk, OnOk};
+ghost use Rattle.matchit.specs.Route.{parse_route};
+ghost use Rattle.rtgs_http_requests.specs.heads.Tables.{holding, with_path, read_paths, command_paths};
+ghost use Rattle.rtgs_http_requests.specs.declared.heads.route.Route.TheVariants.{Bank, Operator};
+
+use crate::heads::bank_route::BankRoute;
+use crate::heads::operator_route::OperatorRoute;
+use crate::heads::route::Route;
+use matchit::Router;
+use std::alloc::{AllocError, Global};
+
+/// The routes under GET. The only error is a lack of memory.
+pub fn read_routes(alloc: Global) -> Result<Router<Route>, AllocError>
+    ensures { IfOk result (λ router. router ≡ holding read_paths) }
+{
+    let mut router = Router::new(alloc);
+    add_operator(&mut router, "/desk/accounts", OperatorRoute::ReadAccounts)?;
+    add_operator(
+        &mut router,
+        "/desk/report/{date}",
+        OperatorRoute::ReadReport,
+    )?;
+    add_bank(&mut router, "/statements/{date}", BankRoute::ReadStatement)?;
+    add_bank(&mut router, "/queue", BankRoute::ReadQueue)?;
+    add_bank(&mut router, "/account", BankRoute::ReadAccount)?;
+    add_bank(&mut router, "/orders/{reference}", BankRoute::ReadOrder)?;
+    Ok(router)
+}
+
+/// The routes under POST. The only error is a lack of memory.
+pub fn command_routes(alloc: Global) -> Result<Router<Route>, AllocError>
+    ensures { IfOk result (λ router. router ≡ holding command_paths) }
+{
+    let mut router = Router::new(alloc);
+    add_operator(&mut router, "/desk/close", OperatorRoute::CloseDay)?;
+    add_operator(&mut router, "/desk/cutoff", OperatorRoute::CutOff)?;
+    add_operator(&mut router, "/desk/resolve", OperatorRoute::Resolve)?;
+    add_operator(&mut router, "/desk/open", OperatorRoute::OpenDay)?;
+    add_operator(&mut router, "/desk/credit", OperatorRoute::SetCredit)?;
+    add_operator(&mut router, "/desk/post", OperatorRoute::Post)?;
+    add_bank(&mut router, "/batches", BankRoute::SendBatch)?;
+    add_bank(
+        &mut router,
+        "/orders/{reference}/withdraw",
+        BankRoute::WithdrawOrder,
+    )?;
+    add_bank(&mut router, "/orders", BankRoute::SendOrder)?;
+    Ok(router)
+}
+
+fn add_bank(router: &mut Router<Route>, path: &str, route: BankRoute) -> Result<(), AllocError>
+    ensures { OnOk result (router.new ≡ with_path (parse_route path.now) (Bank route) router.old) }
+{
+    add(router, path, Route::Bank(route))
+}
+
+// Adds a path of the operator.
+fn add_operator(
+    router: &mut Router<Route>,
+    path: &str,
+    route: OperatorRoute,
+) -> Result<(), AllocError>
+    ensures { OnOk result (router.new ≡ with_path (parse_route path.now) (Operator route) router.old) }
+{
+    add(router, path, Route::Operator(route))
+}
+
+// Adds a path and its route. A path that conflicts with another would be answered as lack of memory too; the tests of
+// each route show that none does.
+fn add(router: &mut Router<Route>, path: &str, route: Route) -> Result<(), AllocError>
+    ensures { OnOk result (router.new ≡ with_path (parse_route path.now) route router.old) }
+{
+    match router.insert(path, route) {
+        Ok(()) => Ok(()),
+        Err(_) => Err(AllocError),
+    }
+}

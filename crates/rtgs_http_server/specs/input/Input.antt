@@ -1,0 +1,61 @@
+-- What is read of an input.
+use Rattle.std.specs.Prelude.{◌≡◌, ⊤, ℕ, List, ◌++◌, take, drop, Option, Some, None, Result, Ok, Err}
+use Rattle.rtgs_http_requests.specs.declared.heads.bank_route.BankRoute.{BankRoute}
+use Rattle.rtgs_http_requests.specs.Callers.{CodeOf}
+use Rattle.rtgs_http_requests.specs.Exchange.{AsksFor}
+use Rattle.rtgs_http_requests.specs.Plans.{PlanLooksUp, admitted_by}
+use Rattle.rtgs_http_requests.specs.declared.admission.Admission.{Admission}
+use Rattle.rtgs_http_requests.specs.declared.admission.Admission.TheVariants.{LookUp}
+use Rattle.rtgs_http_requests.specs.declared.admitted.Admitted.{Admitted}
+use Rattle.rtgs_http_requests.specs.declared.asked.Asked.{Asked}
+use Rattle.rtgs_http_requests.specs.declared.http_fault.HttpFault.{HttpFault}
+use Rattle.rtgs_http_server.specs.declared.input.unread.Unread.{Unread}
+use Rattle.rtgs_http_server.specs.declared.input.unread.Unread.TheVariants.{Reader, DirectoryFailed, Faulty}
+
+-- It holds of the bytes that a reader has left. Where they are not known, there are bytes of which it holds.
+abbrev pub OfInput : Option (List ℕ) → (List ℕ → Type 0) → Type 0
+OfInput (Some left) P = P left
+OfInput None P = (left : List ℕ) × P left
+
+-- the bytes of a piece from one place up to another
+abbrev pub part : ℕ → ℕ → List ℕ → List ℕ
+part from to piece = drop from (take to piece)
+
+-- It holds of these bytes and then what a reader has left.
+abbrev pub Behind : List ℕ → Option (List ℕ) → (List ℕ → Type 0) → Type 0
+Behind first left P = OfInput left (λ rest. P (first ++ rest))
+
+-- A step that asks no directory has this fault. Where the reader fails, nothing is said of the step.
+abbrev pub StepFails : (HttpFault → Type 0) → Unread → Type 0
+StepFails IsFault (Reader failed) = ⊤
+StepFails IsFault DirectoryFailed = ⊥
+StepFails IsFault (Faulty fault) = IsFault fault
+
+-- the outcome of a step that asks no directory is what the step tells
+abbrev pub Says : {X : Type 0} → (Result X HttpFault → Type 0) → Result X Unread → Type 0
+Says Step (Ok value) = Step (Ok value)
+Says Step (Err unread) = StepFails (λ fault. Step (Err fault)) unread
+
+-- The caller of an admission is this one for some participants, and whoever the participants are that the directory
+-- knows. It has failed only where the caller is to be looked up. Nothing is read.
+abbrev pub FindsCaller : (CodeOf → Type 0) → Admission → Result Admitted Unread → Type 0
+FindsCaller Knows admission (Ok caller) =
+    ((code_of : CodeOf) × (Ok caller ≡ admitted_by code_of admission))
+    × ((code_of : CodeOf) → Knows code_of → Ok caller ≡ admitted_by code_of admission)
+FindsCaller Knows admission (Err (Faulty fault)) =
+    (code_of : CodeOf) → Knows code_of → Err fault ≡ admitted_by code_of admission
+FindsCaller Knows admission (Err DirectoryFailed) =
+    (route : BankRoute) × (digest : List ℕ) × (admission ≡ LookUp route digest)
+FindsCaller Knows admission (Err (Reader failed)) = ⊥
+
+-- What the input asks for, or its fault, is this one, whoever the participants are that the directory knows. Also of a
+-- directory that knows none, what is asked is asked for some participants. The directory has failed only where the
+-- caller is to be looked up. Where the reader fails, nothing is said.
+abbrev pub Requests : (CodeOf → Type 0) → List ℕ → List ℕ → Result Asked Unread → Type 0
+Requests Knows operator input (Ok asked) =
+    ((code_of : CodeOf) × AsksFor operator code_of input (Ok asked))
+    × ((code_of : CodeOf) → Knows code_of → AsksFor operator code_of input (Ok asked))
+Requests Knows operator input (Err (Faulty fault)) =
+    (code_of : CodeOf) → Knows code_of → AsksFor operator code_of input (Err fault)
+Requests Knows operator input (Err DirectoryFailed) = PlanLooksUp operator input
+Requests Knows operator input (Err (Reader failed)) = ⊤

@@ -1,7 +1,0 @@
-use Rattle.std.proofs.Common.{◌≡◌, ◌++◌, map, take, drop}
-use Rattle.rtgs_memory_keeper.proofs.Credits.{credited}
-use Rattle.rtgs_memory_keeper.proofs.memory_keeper.set_credit.Given as goal
-
-abbrev pub invariant-loop-participant : goal.invariant-loop-participant
-invariant-loop-participant l = l.participants ≡ map (credited l.code l.credit)
-    (take l.participant-index l.initial.participants) ++ drop l.participant-index l.initial.participants

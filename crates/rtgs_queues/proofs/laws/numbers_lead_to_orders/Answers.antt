@@ -1,6 +1,0 @@
-use Rattle.rtgs_queues.proofs.Numbering.{numbered_from, rising_from}
-use Rattle.rtgs_queues.proofs.Reading.{found_by_number}
-use Rattle.rtgs_queues.proofs.laws.numbers_lead_to_orders.Goals as goal
-
-pub returns : goal.returns
-returns c book numbered = found_by_number book.orders (rising_from 1 book.orders (numbered_from book numbered))

@@ -1,9 +1,0 @@
-use Rattle.std.proofs.Common.{[]}
-use Rattle.rtgs_repeats.proofs.KeptSteps.{kept_itself}
-use Rattle.rtgs_repeats.proofs.Once.{once_run}
-use Rattle.rtgs_repeats.proofs.laws.once_ends_alike.Goals as goal
-
-pub returns : goal.returns
-returns c = λ old new commands replies sound run. once_run c.own_step_keeps_soundness.ensures
-    c.what_did_not_act_leaves_the_book.ensures c.step_keeps_soundness.ensures old [] old new commands replies sound
-    (kept_itself old) tt run

@@ -1,6 +1,0 @@
-use Rattle.rtgs_repeats.proofs.Batch.{resumed}
-use Rattle.rtgs_repeats.proofs.laws.resumed_batch_ends_alike.Goals as goal
-
-pub returns : goal.returns
-returns c = resumed c.balance_after_order.ensures c.balance_after_settling.ensures c.own_step_keeps_soundness.ensures
-    c.what_did_not_act_leaves_the_book.ensures c.step_keeps_soundness.ensures c.step_is_determined.ensures

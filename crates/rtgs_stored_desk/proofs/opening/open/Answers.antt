@@ -1,7 +1,0 @@
-use Rattle.std.proofs.lemmas.Result.{IfOk-weaker}
-use Rattle.rtgs_stored_desk.proofs.opening.open.Goals as goal
-
-pub returns-clause-opened : goal.returns-clause-opened
-returns-clause-opened g c = IfOk-weaker c.desk_over.result _ _ (λ desk opened clean is_open.
-    let over = rw c.open.ensures.is.0 at opened in
-    over clean (c.rests.ensures is_open)) c.desk_over.ensures.opened

@@ -1,0 +1,11 @@
+use Rattle.std.proofs.Common.{ap, ◌∙◌}
+use Rattle.std.specs.List.{find}
+use Rattle.rtgs_book.specs.declared.book.Book.{Book}
+use Rattle.rtgs_book.specs.cores.Nexts.{posting_after, is_posting_after}
+use Rattle.rtgs_tests_desks.proofs.in_memory.memory_keeper.MemoryKeeperKeeper.next_posting.Goals as goal
+
+pub returns-clause-found : goal.returns-clause-found
+unfolding posting_after
+returns-clause-found c honest book kept = c.posting_after.ensures
+    ∙ ap (find (is_posting_after c.args.date c.args.number)) c.as_slice.ensures.value
+    ∙ ap (λ (b : Book). find (is_posting_after c.args.date c.args.number) b.postings) kept.0
