@@ -3,6 +3,7 @@
 #![tactic(auto)]
 
 mod account;
+mod account_reading;
 mod answer;
 mod book;
 mod change;
@@ -25,6 +26,7 @@ mod rule;
 mod standing;
 
 pub use crate::account::Account;
+pub use crate::account_reading::AccountReading;
 pub use crate::answer::{Answer, Known, Resolution, WholeAnswer};
 pub use crate::book::Book;
 pub use crate::change::{Change, RowChange};

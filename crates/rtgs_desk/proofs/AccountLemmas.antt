@@ -21,7 +21,7 @@ use Rattle.rtgs_book.specs.Soundness.{IsSound}
 use Rattle.rtgs_book.specs.cores.Cores.{account_of}
 use Rattle.rtgs_book.specs.cores.Following as following
 use Rattle.rtgs_desk.specs.Readings.{Tells, if_known, account_known, account_answer, reading_of, readings_of}
-use Rattle.rtgs_desk.specs.declared.reading.AccountReading.{AccountReading}
+use Rattle.rtgs_book.specs.declared.account_reading.AccountReading.{AccountReading}
 
 -- ---- codes
 

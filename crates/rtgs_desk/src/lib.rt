@@ -4,8 +4,7 @@
 
 pub mod batches;
 mod desk;
-mod reading;
+mod value;
 
 pub use crate::batches::submit_batch;
 pub use crate::desk::Desk;
-pub use crate::reading::AccountReading;

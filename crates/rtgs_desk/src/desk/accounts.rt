@@ -8,8 +8,8 @@ ghost use Rattle.rtgs_desk.specs.Holding.{HasInMemory, Holds};
 ghost use Rattle.rtgs_desk.specs.Readings.{Tells, accounts_answer, reading_of};
 
 use super::Desk;
-use crate::reading::{AccountReading, value_of};
-use rtgs_book::{Account, MOST_PARTICIPANTS, Refusal};
+use crate::value::value_of;
+use rtgs_book::{Account, AccountReading, MOST_PARTICIPANTS, Refusal};
 use rtgs_keeper::Keeper;
 use std::alloc::AllocError;
 

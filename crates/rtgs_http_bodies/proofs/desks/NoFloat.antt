@@ -4,7 +4,7 @@ use Rattle.serde_json.specs.Data.{Members}
 use Rattle.serde_json.specs.View.{items_of}
 use Rattle.serde_json.specs.Written.{has_float, items_have_float, members_have_float}
 use Rattle.rtgs_book.specs.declared.day.Day.{Day}
-use Rattle.rtgs_desk.specs.declared.reading.AccountReading.{AccountReading}
+use Rattle.rtgs_book.specs.declared.account_reading.AccountReading.{AccountReading}
 use Rattle.rtgs_http_bodies.specs.desks.Accounts.{account_members, account_with, accounts_data, day_members, listed}
 use Rattle.rtgs_http_bodies.specs.desks.Accounts.{listed_with, with_date}
 use Rattle.rtgs_http_bodies.specs.replies.Bodies.{signed}

@@ -25,7 +25,7 @@ use Rattle.rtgs_book.specs.Soundness.{IsSound}
 use Rattle.rtgs_book.specs.declared.refusal.Refusal.{Refusal}
 use Rattle.rtgs_book.specs.declared.limits.TheConstants.{LONGEST_QUEUE}
 use Rattle.rtgs_desk.specs.Readings.{if_known, account_answer, reading_of, readings_of, value_of}
-use Rattle.rtgs_desk.specs.declared.reading.AccountReading.{AccountReading}
+use Rattle.rtgs_book.specs.declared.account_reading.AccountReading.{AccountReading}
 use Rattle.rtgs_http_bodies.specs.desks.Accounts.{QueuedValuesFit}
 
 -- some of the orders pay at most the greatest amount each

@@ -8,8 +8,7 @@ ghost use Rattle.rtgs_http_bodies.specs.replies.Messages.{json_message};
 
 use crate::replies::{ContentType, Reply};
 use http::StatusCode;
-use rtgs_book::Phase;
-use rtgs_desk::AccountReading;
+use rtgs_book::{AccountReading, Phase};
 use rtgs_money::BusinessDate;
 use serde_json::{Value, json};
 use std::alloc::{AllocError, Global};

@@ -5,7 +5,7 @@ ghost use Rattle.rtgs_book.specs.declared.book.Book.{Book};
 ghost use Rattle.rtgs_book.specs.Ranges.{Fits};
 ghost use Rattle.rtgs_book.specs.Soundness.{IsSound};
 ghost use Rattle.rtgs_desk.specs.Readings.{account_answer, readings_of};
-ghost use Rattle.rtgs_desk.specs.declared.reading.AccountReading.{AccountReading};
+ghost use Rattle.rtgs_book.specs.declared.account_reading.AccountReading.{AccountReading};
 ghost use Rattle.rtgs_http_bodies.specs.desks.Accounts.{QueuedValuesFit};
 
 /// What the orders of a queue pay together is far below 2^63 cents, in each account of a sound book whose amounts are

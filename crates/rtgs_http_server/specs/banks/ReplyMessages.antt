@@ -6,7 +6,7 @@ use Rattle.rtgs_book.specs.declared.order.Order.{Order}
 use Rattle.rtgs_book.specs.declared.refusal.Refusal.{Refusal}
 use Rattle.rtgs_book.specs.Outcome.{Reply}
 use Rattle.rtgs_desk.specs.Readings.{account_answer, accounts_answer, queue_answer, order_answer}
-use Rattle.rtgs_desk.specs.declared.reading.AccountReading.{AccountReading}
+use Rattle.rtgs_book.specs.declared.account_reading.AccountReading.{AccountReading}
 use Rattle.rtgs_http_bodies.specs.Answers.{answer_data}
 use Rattle.rtgs_http_bodies.specs.Readings.{order_data, queue_data}
 use Rattle.rtgs_http_bodies.specs.Refusals.{refused_message, batch_refused_message}

@@ -1,8 +1,8 @@
 //! What a desk tells of its book.
 use super::super::scripts::desks::desk_follows;
 use super::super::setting::{MONDAY, code, date, desk_over, kept, order, participant};
-use rtgs_book::{Day, Order, OrderState, Phase, Refusal, RowChange};
-use rtgs_desk::{AccountReading, Desk};
+use rtgs_book::{AccountReading, Day, Order, OrderState, Phase, Refusal, RowChange};
+use rtgs_desk::Desk;
 use rtgs_keeper::Keeper;
 use rtgs_money::{Cents, Code, Reference, Units};
 use rtgs_tests_desks::MemoryKeeper;

@@ -2,7 +2,8 @@
 use super::super::setting::{code, desk_over};
 use super::records::{mark_if_any, order_if_any, posting_if_any};
 use super::{Answers, command_of, day_of, follows, reply_text, words_of};
-use rtgs_desk::{AccountReading, Desk};
+use rtgs_book::AccountReading;
+use rtgs_desk::Desk;
 use rtgs_keeper::Keeper;
 use rtgs_statements::Source;
 use rtgs_tests_desks::MemoryKeeper;

@@ -2,7 +2,7 @@ use Rattle.std.proofs.Common.{◌≡◌, ◌∙◌, List, Result, Ok, refl, ap, 
 use Rattle.rtgs_book.specs.declared.day.Day.{Day}
 use Rattle.rtgs_book.specs.declared.refusal.Refusal.{Refusal}
 use Rattle.rtgs_desk.specs.Readings.{accounts_answer}
-use Rattle.rtgs_desk.specs.declared.reading.AccountReading.{AccountReading}
+use Rattle.rtgs_book.specs.declared.account_reading.AccountReading.{AccountReading}
 use Rattle.rtgs_http_bodies.specs.desks.Accounts.{QueuedValuesFit}
 use Rattle.rtgs_http_server.specs.banks.ReplyMessages.{accounts_message}
 use Rattle.rtgs_http_server.proofs.banks.ReadingReplies.{refused_said, value_said}

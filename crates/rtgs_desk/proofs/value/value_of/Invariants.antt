@@ -1,6 +1,6 @@
 use Rattle.std.proofs.Common.{◌≡◌, ◌≤◌, ◌*◌, ◌^◌, pos, take}
 use Rattle.rtgs_desk.specs.Readings.{value_of}
-use Rattle.rtgs_desk.proofs.reading.value_of.Given as goal
+use Rattle.rtgs_desk.proofs.value.value_of.Given as goal
 
 -- the value so far, and each order pays at most 10^12
 abbrev pub invariant-loop-order : goal.invariant-loop-order
