@@ -1,6 +1,7 @@
 //! Calls to desks over tables: what opens, commits and rolls back.
 mod batches;
 mod commands;
+mod commits;
 mod creations;
 mod migrations;
 mod openings;
