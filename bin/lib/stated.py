@@ -197,6 +197,7 @@ TEXTS = {
         "at most {file} bytes, and the body of a request too,",
         "are errors of the command line (status {misused}).",
     ],
+    "docs/ARCHITECTURE.md": ["The desk is a stack of {crates} crates."],
     "CONTRIBUTING.md": ["The gate may take {gate} lane-minutes"],
     "CHANGELOG.md": ["The limit of {queue} orders of a sender (refusal 7)"],
 }
@@ -277,11 +278,13 @@ def constants():
     """Returns each number that a text may name."""
     found = {name: constant(*place) for name, place in CONSTANTS.items()}
     tables = re.search(r"^known_tables = (.*?)\[\]", content(f"{CRATES}/rtgs_rows/specs/Tables.antt"), re.M | re.S)
+    crates = re.findall(r"^\w+:", content(f"{kit.TOP}/crates.txt"), re.M)
     served = re.findall(r"\.range\(1\.\.=(\d+)\)", content(f"{CRATES}/rtgs_cli_arguments/src/serving.rt"))
     largest = found["total"] + (found["participants"] - 1) * found["credit"]
     return {
         **found,
         "tables": Number(tables[1].count("∷")),
+        "crates": Number(len(crates)),
         "port": Number(served[0]),
         "connections": Number(served[1]),
         "lingered": Number(found["pieces"] * found["piece"]),
