@@ -23,11 +23,11 @@ EVIDENCE = "refused-memory"
 NEEDS_THE_PROGRAM = False
 CRATES = ("rtgs_memory_trials",)
 BEGINS, CALLED, ANSWERED = "begins", "called", "answered"
-# what a call may come to
+# what a call may come to where one request is refused, and no other: 91 (Faulted) would take lack of memory for a fault
+# of the store
 OUTCOMES = {
     "Ample": "the answer with ample memory",
     "Refused": "90, and nothing has changed",
-    "Faulted": "91: the store has failed, and the book is the one before or the one after",
     "Stopped": "69, or a batch that stopped: all is done, or a part of which the same call does the rest",
     "Lost": "69: all is done",
 }
