@@ -6,7 +6,7 @@ use rtgs_money::{Code, Credit, KeyDigest, Name};
 pub struct Participant {
     pub code: Code,
     pub name: Name,
-    /// The digest of the key that the bank's requests bear.
+    /// The digest of the key that the bank's requests carry.
     pub key: KeyDigest,
     pub credit: Credit,
 }

@@ -84,7 +84,7 @@ pub record IsNoBook {D : Type 0} (g : disk.Ghosts D) (held : Image) (fault : Fau
 -- the store opened, its tables were not brought to the newest version, and these files are left
 pub record WasUnmigrated {D : Type 0} (g : disk.Ghosts D) (held : Image) (fault : Fault) (files : Files D) : Type 0
   where
-    -- the connection, when it had been opened, and when it was given up
+    -- the connection, when it had been opened, and when it was abandoned
     pub was : Held (FileStore D g)
     pub left : Held (FileStore D g)
     pub opened : HasCleanDisk (file_state left) → IsOpened was
@@ -97,7 +97,7 @@ pub record WasUnmigrated {D : Type 0} (g : disk.Ghosts D) (held : Image) (fault 
 module _ {K D : Type 0} {g : disk.Ghosts D} (k : Ghosts K) (conn : K → Held (FileStore D g)) (held : Image) where
   -- the store opened, the desk did not, and these files are left
   pub record WasRefused (fault : Fault) (files : Files D) : Type 0 where
-    -- the connection, when it had been opened, and the keeper, when it was given up
+    -- the connection, when it had been opened, and the keeper, when it was abandoned
     pub was : Held (FileStore D g)
     pub left : K
     pub opened : HasCleanDisk (file_state (conn left)) → IsOpened was
@@ -112,7 +112,7 @@ module _ {K D : Type 0} {g : disk.Ghosts D} (k : Ghosts K) (conn : K → Held (F
 
   -- the store opened, no tables were made, and these files are left
   pub record WasUnmade (fault : Fault) (files : Files D) : Type 0 where
-    -- the connection, when it had been opened, and when it was given up
+    -- the connection, when it had been opened, and when it was abandoned
     pub was : Held (FileStore D g)
     pub left : Held (FileStore D g)
     pub opened : HasCleanDisk (file_state was) → IsOpened was

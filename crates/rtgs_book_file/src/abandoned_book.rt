@@ -8,7 +8,7 @@ use std::snapshot::Snapshot;
 
 /// A book's file that was abandoned and released with its lock, as its store was left: over it no desk was opened, no
 /// book made in it, and its tables not brought to the newest version. It has no bytes: it is there for contracts, which
-/// name by it what was left of the files. Only to abandon a connection makes one, and only to copy its log makes what a
+/// name by it what was left of the files. Only abandoning a connection makes one, and only copying its log makes what a
 /// book is closed to: so neither stands for the other.
 #[derive(Drop)]
 pub struct AbandonedBook<S: Start> {

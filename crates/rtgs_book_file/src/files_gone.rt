@@ -1,10 +1,10 @@
-//! Files that were let go.
+//! Files that were released.
 ghost use Rattle.std.specs.Prelude.{◌≡◌};
 
 use std::snapshot::Snapshot;
 
-/// Files that were let go, or what was left of them, as contracts see them. Only to drop them makes one. The lock of a
-/// book's file is let go for such a value alone, and so after the files.
+/// Files that were released, or what was left of them, as contracts see them. Only to drop them makes one. The lock of
+/// a book's file is released for such a value alone, and so after the files.
 #[derive(Drop)]
 pub(crate) struct FilesGone<F: Drop> {
     files: Snapshot<F>,

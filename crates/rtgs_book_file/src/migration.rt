@@ -17,7 +17,7 @@ use sqlite_disk::Disk;
 
 impl<S: Start> BookLock<'_, S> {
     /// Brings the tables of the book in the file, which held what `S` says, to the newest version, closes the file, and
-    /// lets the lock go. Whether anything was written: tables of the newest version stay as they are. A fault where
+    /// releases the lock. Whether anything was written: tables of the newest version stay as they are. A fault where
     /// there is no book, or none that is sound, or where the store fails. No desk is opened: that could be refused when
     /// the tables were written.
     pub fn migrate(self, rt: &HostRuntime) -> Result<(Released<S>, bool), Unopened<S>>

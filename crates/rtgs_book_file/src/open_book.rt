@@ -34,7 +34,7 @@ pub struct OpenBook<K: Keeper> {
 
 impl<S: Start> BookLock<'_, S> {
     /// Opens the book in the file, which held what `S` says. A fault where there is no book, or none that is sound and
-    /// calm; the lock is then let go with the refusal.
+    /// calm; the lock is then released with the refusal.
     pub fn open(self, rt: &HostRuntime) -> Result<OpenBook<FileKeeper<S>>, Unopened<S>>
         ensures opened { IfOk result (λ book. HasCleanDisk (file_state book.desk.keeper.conn)
             → WasOpened ⟦<FileKeeper<S> as Keeper>⟧ (image_at S.Start) book.desk book.desk.keeper.conn) }
@@ -56,7 +56,7 @@ impl<S: Start> BookLock<'_, S> {
         }
     }
 
-    /// Makes the tables of a new book in the file, closes it, and lets the lock go. `FileExists` where the file holds
+    /// Makes the tables of a new book in the file, closes it, and releases the lock. `FileExists` where the file holds
     /// anything, and a fault of the book where the file cannot be looked at, or the store fails.
     pub fn make(self, rt: &HostRuntime) -> Result<Released<S>, Unopened<S>>
         ensures made { IfOk result (λ made. WasMade ⟦<FileKeeper<S> as Keeper>⟧ (λ keeper. keeper.conn)

@@ -46,7 +46,7 @@ impl SchemaSize {
     }
 }
 
-/// What the file at this path lists, which held what `S` says. The files are let go again.
+/// What the file at this path lists, which held what `S` says. The files are released again.
 pub(crate) fn listed<S: Start>(rt: &HostRuntime, path: &str, start: S) -> SchemaSize
     ensures { IsReadIn ⟦<FileFrom<S> as Disk>⟧ (image_at S.Start) result.listed }
 {

@@ -18,7 +18,7 @@ use sqlite_disk::Disk;
 pub type FileKeeper<S> = SqlKeeper<FileStore<FileFrom<S>>>;
 
 /// The store over a file that held what `S` says, which is made where there is none, and the lock of the file. The file
-/// was locked and looked at before. Where it does not open, the lock is let go.
+/// was locked and looked at before. Where it does not open, the lock is released.
 pub(crate) fn connect<S: Start>(
     rt: &HostRuntime,
     file: LookedAt<'_, S>,

@@ -14,7 +14,7 @@ use rtgs_keeper::Keeper;
 /// What was done with the book in a file, and the book as it was left; or why no desk was opened over the file.
 pub type Finished<S, T> = Result<(FinishedBook<FileKeeper<S>>, T), Unopened<S>>;
 
-/// The same, once the book was closed and let go.
+/// The same, once the book was closed and released.
 pub type Closed<S, T> = Result<(Released<S>, T), Unopened<S>>;
 
 /// What a run touched of a book's file that held what `S` says, where it met `M` beside it.
@@ -76,7 +76,7 @@ pub fn open<S: Start>(
     lock.open(rt)
 }
 
-/// Closes the book with which something was done, lets it go, and gives what that was.
+/// Closes the book with which something was done, releases it, and gives what that was.
 pub fn close_book<S: Start, T>(finished: Finished<S, T>) -> Closed<S, T>
     ensures done { IfOk result (λ (closed, done). (book : _) × (finished ≡ Ok (book, done))
         × (file_from ⟦<FileKeeper<S> as Keeper>⟧ S.Start (λ keeper. keeper.conn)).was_closed book.desk closed

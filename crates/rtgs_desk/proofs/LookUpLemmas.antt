@@ -148,7 +148,7 @@ module _ {K : Type 0} (g : Ghosts K) (laws : KeeperLaws g) {X : Type 0} (keeper 
   not_looked_up faults.NotADeskFile e = absurd (looks.kinds.0 e)
   not_looked_up (faults.Inconsistent rule) e = absurd (looks.kinds.1 rule e)
 
--- that a desk had failed is answered by one that had
+-- only a desk that had failed answers that it had
 had_failed : {K : Type 0} (g : Ghosts K) (old new : Seen K) (ended : Option Refusal) → LooksUp g old new ended
     → ended ≡ Some Failed → g.has_failed old.keeper ≡ true
 had_failed g old new ended looked is = by (g.has_failed old.keeper) refl

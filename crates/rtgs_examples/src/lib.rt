@@ -63,7 +63,7 @@ pub fn cascade()
 }
 
 /// Credit can be used to its limit, and the limit is not lowered below what is used. An order that comes again is
-/// answered its number and state, and its reference serves for no other.
+/// answered with its number and state, and its reference serves for no other.
 pub fn boundary_of_credit()
     ensures { Comes
         (Command.SetCredit alfa 100 ∷ pays alfa beta 100 (codes "A-1") ∷ pays alfa beta 1 (codes "A-2")

@@ -100,7 +100,8 @@ pub fn serve_and_stop<R: Read, W: Write, S: Alter + Reopen + Drop>(
 // Records, Lines, Sums, Tallies, Columns.
 pub fn a_book_and_an_input_have_one_reply<K: Keeper>()
     ensures asked { (operator input : List ℕ) (old : Book) (one other : Seen K) (sent again : Message)
-        (first : Handles K.Keeper operator old input one sent) (second : Handles K.Keeper operator old input other again)
+        (first : Handles K.Keeper operator old input one sent)
+        (second : Handles K.Keeper operator old input other again)
         → first.answer ≢ Err HttpFault.OutOfMemory → second.answer ≢ Err HttpFault.OutOfMemory
         → AreTheSame first.answer second.answer }
     ensures replied { (operator input : List ℕ) (old : Book) (one other : Seen K) (sent again : Message)

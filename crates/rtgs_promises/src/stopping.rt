@@ -30,7 +30,7 @@ pub(crate) fn store_of<S: Alter + Drop>(desk: Desk<SqlKeeper<S>>) -> S
     desk.into_keeper().into_connection().into_store()
 }
 
-// Whether a store is let go as it is: where it is to end in order, and works.
+// Whether a store is released as it is: where it is to end in order, and works.
 fn is_let_go<S: Alter>(store: &S, stop: Stop) -> bool
     ensures { result ≡ true → IsClean (S.Store.view store.now) → (S.Store.view store.now).is_broken ≡ false }
 {

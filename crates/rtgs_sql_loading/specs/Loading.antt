@@ -36,7 +36,7 @@ pub record ReadsOn (old new : State) : Type 0 where
   pub same : HasCleanDisk new → new.now ≡ old.now
   pub survives : Survives old new (λ _. ⊥)
 
--- a table has these rows: by its rows, where the schema is that of this version, and by what its query shows
+-- a table has these rows: by its tree, where the schema is that of this version, and by what its query shows
 abbrev pub HasRows : ℕ → State → Telling
 HasRows version s table counted seen_rows = ((trees : Trees) → IsFileIn version trees s
     → AreRowsIn trees table counted seen_rows) × DisplaysAs s.now (query_text table) counted seen_rows

@@ -1,5 +1,5 @@
 //! Passing over orders that are not of a date, by looks at single rows. The dates of plain orders, those without a due
-//! date, never fall along their numbers. Any other order may bear a later date than the orders after it.
+//! date, never fall along their numbers. Any other order may have a later date than the orders after it.
 ghost use Rattle.std.specs.Prelude.{◌≡◌, Some, false, IfOk};
 ghost use Rattle.rtgs_book.specs.declared.book.Book.{Book};
 ghost use Rattle.rtgs_book.specs.Books.{has_due};

@@ -46,7 +46,7 @@ $ desk post @ ALFA P-1 1
 status 3
 ";
 
-/// Follows a script while a book's file is open, and once it is closed and copied, but not yet let go. Where the file
+/// Follows a script while a book's file is open, and once it is closed and copied, but not yet released. Where the file
 /// is refused, only the other script is followed, while what refused it is still there.
 fn follows_while_held<S: Start>(
     rt: &HostRuntime,

@@ -4,8 +4,8 @@ use super::script::{follows, follows_both};
 use std::test::Fail;
 
 const READINGS: &str = "
-$ orders told.csv A-1,BETA,100 A-2,GAMA,60
-$ desk import @ ALFA told.csv
+$ orders shown.csv A-1,BETA,100 A-2,GAMA,60
+$ desk import @ ALFA shown.csv
 > reference,result,number,detail
 > A-1,settled,1,1
 > A-2,queued,2,1
@@ -42,7 +42,7 @@ status 1
 
 #[test]
 fn accounts_queues_and_orders_are_shown_as_json(rt: HostRuntime) -> Result<(), Fail> {
-    follows_both(&rt, "told", DAY, READINGS)
+    follows_both(&rt, "shown", DAY, READINGS)
 }
 
 /// The accounts of a new book: nobody's, and then those of two participants before the first day.

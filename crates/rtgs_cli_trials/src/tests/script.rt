@@ -9,8 +9,8 @@
 //! - `$ out N WORDS` is the same where standard output takes only N bytes, and `$ err N WORDS` where standard error
 //!   does.
 //! - `$ names WORDS` is a run whose standard output has each text after `> ` in it, and each after `= ` as a line.
-//! - `$ writes WORDS` is one of which only is shown in how many writes it printed its lines.
-//! - `$ ends WORDS` is one of which only is shown on which streams it printed, by `>` and `!`, and how it ended.
+//! - `$ writes WORDS` is one of which only this is shown: in how many writes it printed its lines.
+//! - `$ ends WORDS` is one of which only this is shown: on which streams it printed, by `>` and `!`, and how it ended.
 //! - `$ file PATH TEXT` writes a file; `\n` in the text is a line's end.
 //! - `$ orders PATH ROWS` writes a file of orders: their header, and a line for each of these rows.
 //! - `$ sql PATH STATEMENT` changes a book's file by SQL, as another program does; `$ log PATH STATEMENT` leaves the

@@ -27,7 +27,7 @@ pub value_said : {X Y : Type 0} (view : Y → X) (answer : Result X Refusal) (y 
 value_said view (Err other) y say sent e h = let no : ⊥ = cc in absurd no
 value_said view (Ok x) y say sent e h = inl (h ∙ ap say e)
 
--- a value that was answered is what is there to be answered
+-- a value that was answered is the one that the book has
 pub is_answered : {X Y : Type 0} (view : Y → X) (answer : Result X Refusal) (y : Y) → Tells view answer (Ok y)
     → answer ≡ Ok (view y)
 is_answered view (Err other) y e = let no : ⊥ = cc in absurd no

@@ -36,7 +36,7 @@ pub record Submits {K : Type 0} (g : Ghosts K) (old : Book) (command : Command) 
   pub reply : Reply
   pub acts : Acts g old command reply desk
   pub sent_or_lost : IsSentOrLost (reply_message reply) sent
-  -- that memory was refused for the command is sent without taking any
+  -- where memory was refused for the command, the reply that takes none is sent
   pub refused : reply ≡ Err OutOfMemory → sent ≡ no_memory
   pub not_failed : reply ≢ Err Failed
 

@@ -51,7 +51,8 @@ fn submit<K: Keeper>(alloc: Global, desk: &mut Desk<K>, command: Command) -> Rep
     tell(alloc, reply)
 }
 
-// The HTTP reply of a reply of the desk. Lack of memory for the command has the fixed one, which takes none.
+// The HTTP reply to a reply of the desk. Where memory was refused for the command it is the fixed one, which takes
+// none.
 fn tell(alloc: Global, reply: Result<WholeAnswer, Refusal>) -> Reply
     ensures sent_or_lost { IsSentOrLost (reply_message reply) result }
     ensures refused { reply ≡ Err Refusal.OutOfMemory → result ≡ no_memory }

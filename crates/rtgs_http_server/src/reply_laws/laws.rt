@@ -63,8 +63,8 @@ pub fn replies_are_determined<K: Keeper>()
 }
 
 /// What comes again is answered as a repeat, whatever came between: where an input that carries a participant's key
-/// asked for an order or a withdrawal, and it was accepted, the same input asks for it again, is answered the same
-/// number , and changes nothing. Set aside are replies with the status 503.
+/// asked for an order or a withdrawal, and it was accepted, the same input asks for it again, is answered with
+/// the same number, and changes nothing. Set aside are replies with the status 503.
 pub fn requests_that_come_again_are_repeats<K: Keeper>()
     ensures { (operator input code : List ℕ) (old mid later : Book) (command : Command) (reply : Reply)
         (commands : List Command) (replies : List Reply) (desk : Seen K) (sent : Message) → IsSound old

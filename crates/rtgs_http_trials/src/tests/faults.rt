@@ -1,4 +1,4 @@
-//! What inputs ask for, or the faults that they are answered.
+//! What inputs ask for, or the faults with which they are answered.
 use super::ALFA;
 use super::requests::{WrittenRequest, spelled};
 use super::test_desk::TestDesk;

@@ -5,7 +5,7 @@ use std::test::Fail;
 
 const ACCOUNT: &str = "read account ALFA";
 
-// The input is answered this by ALFA's desk.
+// The input has this answer of ALFA's desk.
 fn is_answered(alloc: Global, input: &str, expected: &str) -> Result<(), Fail> {
     let said = alfas_desk(alloc)?.asks(&mut input.as_bytes())?;
     if said.as_str() == expected {

@@ -191,13 +191,13 @@ impl TestDesk {
         Err(Fail::from(other_reply(alloc, input, &served, bytes, reply)?))
     }
 
-    /// What is asked is answered this.
+    /// What is asked has this answer.
     pub fn is_answered(&mut self, asked: &str, expected: &str) -> Result<(), Fail> {
         let input = input_of(self.alloc, asked)?;
         self.tells(input.as_str(), expected)
     }
 
-    /// What is asked before the arrow of a step is answered what is behind it.
+    /// What is asked before the arrow of a step has the answer behind it.
     pub fn step(&mut self, step: &str) -> Result<(), Fail> {
         match step.split_once("\n-> ") {
             Some((asked, expected)) => self.is_answered(asked, expected),
@@ -213,7 +213,7 @@ impl TestDesk {
         Ok(())
     }
 
-    /// Each of these requests, between two of which is a line without text, is answered this.
+    /// Each of these requests, between two of which is a line without text, has this answer.
     pub fn each_is_answered(&mut self, requests: &str, expected: &str) -> Result<(), Fail> {
         for asked in requests.trim().split("\n\n") {
             self.is_answered(asked, expected)?;

@@ -9,7 +9,7 @@ use std::test::Fail;
 // What ALFA's good order asks for.
 const ORDER: &str = "order ALFA A-1 BETA 100";
 
-// A reader's input is answered this.
+// A reader's input has this answer.
 fn is_answered<R: Read>(desk: &TestDesk, reader: &mut R, expected: &str) -> Result<(), Fail> {
     let said = desk.asks(reader)?;
     if said.as_str() == expected {

@@ -116,8 +116,8 @@ order ALFA A-1 BETA 60 due 2024-03-05 => Ok(Repeated(Order { number: 1, state: S
 order ALFA A-2 BETA 1 => Ok(Queued { number: 2, place: 1 })
 order BETA B-1 ALFA 60 => Ok(Settled { number: 3, mark: 2 }) auto 3 1 1";
 
-// The desk meets this trouble at the opening of the second day, which is answered so. What comes of it is then said
-// over what its keeper kept, and the order has settled.
+// The desk meets this trouble at the opening of the second day, which is answered so. Then the second script is
+// followed over what its keeper kept, and the order has settled.
 fn opens_again(alloc: Global, trouble: Trouble, reply: &str, again: &str) -> Result<(), Fail> {
     let script = format!(in alloc; "{ONE_HELD}\nopen 2024-03-05 automatic => {reply}")?;
     let again = format!(in alloc; "{again}\n{SETTLED}")?;

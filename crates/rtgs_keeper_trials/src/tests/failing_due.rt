@@ -91,8 +91,8 @@ order BETA B-1 ALFA 7 due 2024-03-06 => Ok(Repeated(Order { number: 2, state: He
 order ALFA A-2 BETA 5 due 2024-03-05 => Ok(Repeated(Order { number: 3, state: Queued }))
 order ALFA A-3 BETA 1 => Ok(Queued { number: 4, place: 3 })";
 
-// The desk meets this trouble at the opening of the second day, which is answered so. What comes of it is then said
-// over what its keeper kept, and the first two orders are found in their queue.
+// The desk meets this trouble at the opening of the second day, which is answered so. Then the second script is
+// followed over what its keeper kept, and the first two orders are found in their queue.
 fn opens_again(alloc: Global, trouble: Trouble, reply: &str, again: &str) -> Result<(), Fail> {
     let script = format!(in alloc; "{THREE_HELD}\nopen 2024-03-05 => {reply}")?;
     let again = format!(in alloc; "{again}\n{LET_IN}")?;

@@ -58,7 +58,7 @@ pub fn found_after<S: Store>(
 }
 
 // What a desk in this store has before the first of the commands, and after each, where they come one by one. The banks
-// then stand as it is said.
+// then stand as is expected.
 fn books<S: Store>(alloc: Global, store: &mut S, trial: &Trial) -> Result<Vec<String>, Fail> {
     let mut books = Vec::new(alloc);
     for count in 0..=trial.rows.lines().count() {
@@ -166,7 +166,7 @@ fn stops_leave_what_was_answered<S: Store>(
 }
 
 /// Gives the commands to a desk in a store of each kind, with a stop behind each of them in the second. Just those that
-/// were answered are found then, and the banks stand as it is said.
+/// were answered are found then, and the banks stand as is expected.
 pub fn answers_of_two<M: Store, S: Store>(alloc: Global, trial: &Trial) -> Result<(), Fail> {
     let books = books(alloc, &mut M::blank(alloc), trial)?;
     let mut store = S::blank(alloc);

@@ -1,5 +1,5 @@
 //! A ledger on its happy path, and the refusals of its commands.
-mod following;
+mod follow_up;
 
 use super::scripts::command;
 use super::scripts::ledgers::{funded_ledger_follows, new_ledger, new_ledger_follows};

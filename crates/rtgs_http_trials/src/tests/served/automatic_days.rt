@@ -423,7 +423,7 @@ const NO_MEMORY: &str = r#"503 Service Unavailable {"code":90,"name":"OutOfMemor
 // How many calls of its keeper a desk makes before it keeps the third order of the ring.
 const BEFORE_THE_THIRD: usize = 10;
 
-// The desk at whose third order there is this trouble, and what the order is answered.
+// The desk at whose third order there is this trouble, and how the order is answered.
 fn troubled_at_the_third(
     alloc: Global,
     trouble: Trouble,

@@ -57,7 +57,7 @@ fn in_words(alloc: Global, written: Result<(), BookTextFault>, out: &[u8]) -> Re
     Ok(format!(in alloc; "{refused:?}\n{text}")?)
 }
 
-// What is shown of a participant's statement of Monday.
+// What came of a participant's statement of Monday.
 fn statement(alloc: Global, desk: &mut TestDesk, code: &str) -> Result<String, Fail> {
     let code = Code::read(code.as_bytes())?;
     let monday = BusinessDate::read(b"2024-03-04")?;
@@ -66,7 +66,7 @@ fn statement(alloc: Global, desk: &mut TestDesk, code: &str) -> Result<String, F
     in_words(alloc, written, out.as_slice())
 }
 
-// What is shown of the report of Monday.
+// What came of the report of Monday.
 fn report(alloc: Global, desk: &mut TestDesk) -> Result<String, Fail> {
     let monday = BusinessDate::read(b"2024-03-04")?;
     let mut out = Vec::new(alloc);
@@ -115,7 +115,7 @@ posting    000000002 P-2              -                       20.00         -
     )
 }
 
-// What is shown of a text that was refused at this trouble, after so many lines of the statement.
+// What is expected of a text that was refused at this trouble, after so many lines of the statement.
 fn expected_begun(alloc: Global, trouble: Trouble, lines: usize) -> Result<String, Fail> {
     let refusal = refusal_of(trouble);
     let begun = first_lines(alloc, lines)?;

@@ -111,8 +111,8 @@ fn sent(alloc: Global, asked: &str) -> Result<String, Fail> {
     WrittenRequest::read(asked)?.input(alloc)
 }
 
-// Whether an operator with this key is answered so to a resolution that carries the usual key, and to one that carries
-// the other.
+// Whether a desk whose operator has this key answers so to a resolution that carries the usual key, and to one that
+// carries the other.
 fn operates(alloc: Global, key: &str, beginnings: &[&str]) -> Result<bool, Fail> {
     let mut desk = TestDesk::open(alloc)?;
     desk.operator = digest(key.as_bytes())?;

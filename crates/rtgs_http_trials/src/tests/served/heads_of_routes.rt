@@ -8,7 +8,7 @@ use std::test::Fail;
 
 const BAD_HEAD: &str = r#"400 Bad Request {"code":60,"name":"BadHead"}"#;
 
-// The line and the key of each of these requests, with this end of a head behind them, are answered this.
+// The line and the key of each of these requests, with this end of a head behind them, have this answer.
 fn each_end_is_answered(
     alloc: Global,
     desk: &mut TestDesk,
@@ -23,7 +23,7 @@ fn each_end_is_answered(
     Ok(())
 }
 
-// Each route's head with this end is answered this.
+// Each route's head with this end has this answer.
 fn each_is_answered(alloc: Global, end: &str, expected: &str) -> Result<(), Fail> {
     let mut desk = TestDesk::open(alloc)?;
     each_end_is_answered(alloc, &mut desk, COMMANDS, end, expected)?;

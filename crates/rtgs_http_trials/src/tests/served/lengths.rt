@@ -30,8 +30,8 @@ fn a_body_has_65536_bytes_at_most(rt: HostRuntime) -> Result<(), Fail> {
 
 const BAD_JSON: &str = r#"400 Bad Request {"code":65,"name":"BadJson"}"#;
 
-// ALFA's order whose body of 40960 bytes begins like this, and then has this part so many times, is answered that it is
-// no JSON.
+// ALFA's order whose body of 40960 bytes begins like this, and then has this part so many times, is answered as no
+// JSON.
 fn is_bad(
     alloc: Global,
     desk: &mut TestDesk,

@@ -27,7 +27,7 @@ OPERATOR POST /desk/cutoff {"date":"2024-03-04"}
 OPERATOR POST /desk/close {"date":"2024-03-04"}
 "#;
 
-// Each route's command, with this line of a length or none, is answered this.
+// Each route's command, with this line of a length or none, has this answer.
 fn each_is_answered(alloc: Global, length: &str, expected: &str) -> Result<(), Fail> {
     let mut desk = TestDesk::open(alloc)?;
     for command in COMMANDS.trim().split("\n\n") {
@@ -55,7 +55,7 @@ fn a_body_that_ends_early_on_each_route(rt: HostRuntime) -> Result<(), Fail> {
     each_is_answered(rt.alloc(), "Content-Length: 1000\r\n", expected)
 }
 
-// Each route's command but that of a batch, with this content, is answered this.
+// Each route's command but that of a batch, with this content, has this answer.
 fn each_content_is_answered(
     alloc: Global,
     desk: &mut TestDesk,

@@ -1,4 +1,4 @@
-//! What each command is answered where the store fails or memory is refused, and each request once the store has
+//! How each command is answered where the store fails or memory is refused, and each request once the store has
 //! failed.
 use super::super::test_desk::TestDesk;
 use super::steps::COMMANDS;

@@ -122,8 +122,8 @@ where
     seen_of(alloc, &mut desk)
 }
 
-// How many rows are answered with so many small blocks of memory. Where the next one is refused, what is answered and seen
-// then, and when the rows are sent again, is as it should be.
+// How many rows are answered with so many small blocks of memory. Where the next one is refused, what is answered and
+// seen then, and when the rows are sent again, is as it should be.
 fn answered<S: Store>(
     alloc: Global,
     store: &S,

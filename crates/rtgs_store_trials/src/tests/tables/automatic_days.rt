@@ -80,7 +80,7 @@ fn opening_text<S: Alter + Drop>(alloc: Global, keeper: SqlKeeper<S>) -> Result<
         Err((fault, back)) => {
             let mut keeper = back;
             let loaded = if keeper.load(alloc).is_ok() {
-                ", and the book is told"
+                ", and the book is loaded"
             } else {
                 ""
             };
@@ -93,20 +93,20 @@ fn opening_text<S: Alter + Drop>(alloc: Global, keeper: SqlKeeper<S>) -> Result<
 const RESTLESS: &str = "
 UPDATE participant SET name = 'B' => opened
 INSERT INTO payment (number, sender, reference, receiver, amount, date, state, mark) \
-    VALUES (1, 'ALFA', 'A-1', 'BETA', 1000, '2024-03-04', 0, NULL) => Inconsistent { rule: Calm }, and the book is told
+    VALUES (1, 'ALFA', 'A-1', 'BETA', 1000, '2024-03-04', 0, NULL) => Inconsistent { rule: Calm }, and the book is loaded
 INSERT INTO payment (number, sender, reference, receiver, amount, date, state, mark) \
     VALUES (1, 'ALFA', 'A-1', 'BETA', 1001, '2024-03-04', 0, NULL) => opened
 INSERT INTO payment (number, sender, reference, receiver, amount, date, state, mark) \
     VALUES (1, 'ALFA', 'A-1', 'BETA', 1000, '2024-03-04', 2, NULL) => opened
 INSERT INTO payment (number, sender, reference, receiver, amount, date, state, mark) \
     VALUES (1, 'ALFA', 'A-1', 'BETA', 1001, '2024-03-04', 0, NULL), \
-    (2, 'BETA', 'B-1', 'ALFA', 1, '2024-03-04', 0, NULL) => Inconsistent { rule: Calm }, and the book is told
+    (2, 'BETA', 'B-1', 'ALFA', 1, '2024-03-04', 0, NULL) => Inconsistent { rule: Calm }, and the book is loaded
 INSERT INTO payment (number, sender, reference, receiver, amount, date, state, mark) \
     VALUES (1, 'ALFA', 'A-1', 'BETA', 1002, '2024-03-04', 0, NULL), \
     (2, 'BETA', 'B-1', 'ALFA', 1, '2024-03-04', 0, NULL) => opened
 INSERT INTO payment (number, sender, reference, receiver, amount, date, state, mark) \
     VALUES (1, 'ALFA', 'A-1', 'BETA', 1001, '2024-03-04', 0, NULL); UPDATE participant SET credit = 1 \
-    => Inconsistent { rule: Calm }, and the book is told
+    => Inconsistent { rule: Calm }, and the book is loaded
 INSERT INTO payment (number, sender, reference, receiver, amount, date, state, mark) \
     VALUES (1, 'ALFA', 'A-1', 'BETA', 1000, '2024-03-05', 4, NULL); \
     INSERT INTO forward (number, due) VALUES (1, '2024-03-05') => opened
@@ -121,7 +121,7 @@ fn nothing_waits_on_an_automatic_day_that_could_settle(rt: HostRuntime) -> Resul
 const OTHER_DAYS: &str = "
 INSERT INTO payment (number, sender, reference, receiver, amount, date, state, mark) \
     VALUES (1, 'ALFA', 'A-1', 'BETA', 5, '2024-03-04', 0, NULL); UPDATE desk SET phase = 2 \
-    => Inconsistent { rule: Calm }, and the book is told
+    => Inconsistent { rule: Calm }, and the book is loaded
 INSERT INTO payment (number, sender, reference, receiver, amount, date, state, mark) \
     VALUES (1, 'ALFA', 'A-1', 'BETA', 5, '2024-03-04', 0, NULL); UPDATE resolution SET automatic = 0 => opened
 INSERT INTO payment (number, sender, reference, receiver, amount, date, state, mark) \

@@ -1,9 +1,9 @@
-//! Hostile inputs one by one, and the number that each is answered.
+//! Hostile inputs one by one, and the number with which each is answered.
 use super::serving::{before, serve};
 use std::alloc::Global;
 use std::test::Fail;
 
-// Inputs, each below the number that it is answered. Each line but the last of one ends as lines of a head do.
+// Inputs, each below the number with which it is answered. Each line but the last of one ends as lines of a head do.
 const HEADS: &str = r#"60
 POST /orders HTTP/1.0
 desk-key: 0000000000000000000000000000000a
@@ -104,7 +104,7 @@ fn heads_that_are_refused(rt: HostRuntime) -> Result<(), Fail> {
     are_refused(rt.alloc(), before.as_str(), HEADS)
 }
 
-// Requests of ALFA and of the operator, each below the number that it is answered.
+// Requests of ALFA and of the operator, each below the number with which it is answered.
 const BODIES: &str = r#"65
 POST /orders HTTP/1.1
 desk-key: 0000000000000000000000000000000a

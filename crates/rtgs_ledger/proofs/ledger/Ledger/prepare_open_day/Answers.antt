@@ -72,12 +72,14 @@ lacking c book is =
 pub returns-in_err-numbers-clause-refused : goal.returns-in_err-numbers-clause-refused
 returns-in_err-numbers-clause-refused c book is =
     let refused = err_from_is_err_and c.from_residual.result c.from_residual.ensures.1 in
-    rw (refused.1, refused.2) (lacking (goal.at.returns-in_err-numbers-clause-refused c).After-balance_after_entering book is)
+    rw (refused.1, refused.2) (lacking
+    (goal.at.returns-in_err-numbers-clause-refused c).After-balance_after_entering book is)
 
 pub returns-in_err-rows-clause-refused : goal.returns-in_err-rows-clause-refused
 returns-in_err-rows-clause-refused c book is =
     let refused = err_from_is_err_and c.from_residual-in_err-rows.result c.from_residual-in_err-rows.ensures.1 in
-    rw (refused.1, refused.2) (lacking (goal.at.returns-in_err-rows-clause-refused c).After-balance_after_entering book is)
+    rw (refused.1, refused.2) (lacking
+    (goal.at.returns-in_err-rows-clause-refused c).After-balance_after_entering book is)
 
 pub returns-clause-room : goal.returns-clause-room
 returns-clause-room c = rw (c.from_vec.ensures, c.in_ok-rows.ensures)
