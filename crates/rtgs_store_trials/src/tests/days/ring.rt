@@ -7,8 +7,8 @@ use super::super::setting::{
     queued, reference, resolved,
 };
 use rtgs_book::{
-    Answer, Command, Day, Known, Order, OrderState, Phase, Refusal, Resolution, RowChange,
-    WholeAnswer,
+    Answer, Command, Day, Known, NewOrder, Order, OrderState, Phase, Refusal, Resolution,
+    RowChange, WholeAnswer,
 };
 use rtgs_keeper::Keeper;
 use rtgs_money::{BusinessDate, Cents, Code, Reference};
@@ -134,10 +134,12 @@ fn sends(alloc: Global, ring: Ring, number: u64) -> Result<Command, Fail> {
     let order = order(alloc, ring, number)?;
     Ok(Command::Order {
         sender: order.sender,
-        reference: order.reference,
-        receiver: order.receiver,
-        amount: order.amount,
-        due: order.due,
+        order: NewOrder {
+            reference: order.reference,
+            receiver: order.receiver,
+            amount: order.amount,
+            due: order.due,
+        },
     })
 }
 
@@ -245,10 +247,12 @@ fn closing(alloc: Global) -> Result<Command, Fail> {
     let due: Option<BusinessDate> = None;
     Ok(Command::Order {
         sender: bank(alloc, 0)?,
-        reference: name(alloc, 0)?,
-        receiver: bank(alloc, 1)?,
-        amount: amount(AT_ONCE)?,
-        due,
+        order: NewOrder {
+            reference: name(alloc, 0)?,
+            receiver: bank(alloc, 1)?,
+            amount: amount(AT_ONCE)?,
+            due,
+        },
     })
 }
 

@@ -96,12 +96,11 @@ fn new_kept(alloc: Global) -> Result<Kept, Fail> {
 /// What the keeper finds for the command.
 fn found_for(keeper: &mut MemoryKeeper, command: &Command) -> Result<Found, Fail> {
     match command {
-        Command::Order {
-            sender,
-            reference,
-            ..
-        }
-        | Command::Withdraw { sender, reference } => Ok(Found {
+        Command::Order { sender, order } => Ok(Found {
+            order: keeper.find_order(sender, &order.reference)?,
+            posting: None,
+        }),
+        Command::Withdraw { sender, reference } => Ok(Found {
             order: keeper.find_order(sender, reference)?,
             posting: None,
         }),
