@@ -19,6 +19,7 @@ impl<T> Model for Rows<T> {
 }
 
 impl<T> Rows<T> {
+    /// No rows yet. What is added takes memory of this allocator.
     pub fn new(alloc: Global) -> Self
         ensures { result ≡ [] }
     {

@@ -97,6 +97,7 @@ impl Queues {
         Some(count)
     }
 
+    /// The queue of the participant with this index, with its first payment first.
     pub(crate) fn queue(&self, index: usize) -> &[Payment]
         requires { index < length self.now }
         ensures { result.now ≡ queue_of self.now index }
@@ -104,6 +105,7 @@ impl Queues {
         &self.lists[index]
     }
 
+    /// The payment at this place, from 0 on, of the queue of the participant with this index.
     pub(crate) fn payment(&self, index: usize, place: usize) -> Payment
         requires index { index < length self.now }
         requires place { place < length (queue_of self.now index) }

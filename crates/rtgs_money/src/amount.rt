@@ -60,6 +60,7 @@ impl Amount {
             .ok_or(Lexical::BadAmount)
     }
 
+    /// The cents, of which there is at least one.
     pub fn cents(self) -> u64
         ensures value { result ≡ self }
         ensures at_least_one { 1 ≤ self }

@@ -50,6 +50,7 @@ impl Code {
         })
     }
 
+    /// The bytes of the code, in the form in which it was read.
     pub fn as_bytes(&self) -> &[u8]
         ensures value { result.now ≡ self.now }
         ensures form { IsCode self.now }
@@ -58,6 +59,7 @@ impl Code {
         self.text.as_bytes()
     }
 
+    /// The code as text, in the form in which it was read.
     pub fn as_str(&self) -> &str
         ensures value { result.now ≡ self.now }
         ensures form { IsCode self.now }

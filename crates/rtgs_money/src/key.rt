@@ -48,6 +48,7 @@ impl Key {
         })
     }
 
+    /// The bytes of the key, in the form in which it was read.
     pub fn as_bytes(&self) -> &[u8]
         ensures value { result.now ≡ self.now }
         ensures form { IsKey self.now }
@@ -56,6 +57,7 @@ impl Key {
         self.text.as_bytes()
     }
 
+    /// The key as text, in the form in which it was read.
     pub fn as_str(&self) -> &str
         ensures value { result.now ≡ self.now }
         ensures form { IsKey self.now }

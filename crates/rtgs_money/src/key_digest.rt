@@ -21,6 +21,7 @@ impl KeyDigest {
     /// How many bytes a digest has.
     pub const LENGTH: usize = 32;
 
+    /// The digest that has these bytes, as they are found in a table.
     pub fn from_bytes(bytes: [u8; KeyDigest::LENGTH]) -> KeyDigest
         ensures { result ≡ bytes }
     {
@@ -35,6 +36,7 @@ impl KeyDigest {
         bytes.try_into().ok().map(KeyDigest::from_bytes)
     }
 
+    /// The bytes of the digest, as they stand in a table.
     pub fn as_bytes(&self) -> &[u8]
         ensures value { result.now ≡ self.now }
         ensures len { length self.now ≡ KeyDigest.LENGTH }

@@ -47,6 +47,7 @@ impl Name {
         })
     }
 
+    /// The bytes of the name, in the form in which it was read.
     pub fn as_bytes(&self) -> &[u8]
         ensures value { result.now ≡ self.now }
         ensures form { IsName self.now }
@@ -55,6 +56,7 @@ impl Name {
         self.text.as_bytes()
     }
 
+    /// The name as text, in the form in which it was read.
     pub fn as_str(&self) -> &str
         ensures value { result.now ≡ self.now }
         ensures form { IsName self.now }

@@ -72,6 +72,7 @@ impl PostingAmount {
         })
     }
 
+    /// The cents: above zero where they are added to the account, and below where they are taken.
     pub fn cents(self) -> i64
         ensures value { result ≡ self }
         ensures not_zero { self ≢ pos 0 }

@@ -47,6 +47,7 @@ impl Reference {
         })
     }
 
+    /// The bytes of the reference, in the form in which it was read.
     pub fn as_bytes(&self) -> &[u8]
         ensures value { result.now ≡ self.now }
         ensures form { IsReference self.now }
@@ -55,6 +56,7 @@ impl Reference {
         self.text.as_bytes()
     }
 
+    /// The reference as text, in the form in which it was read.
     pub fn as_str(&self) -> &str
         ensures value { result.now ≡ self.now }
         ensures form { IsReference self.now }

@@ -37,6 +37,7 @@ impl<const N: usize> Model for Text<N> {
 }
 
 impl<const N: usize> Text<N> {
+    /// A text of no bytes.
     pub(crate) fn new() -> Text<N>
         ensures { result ≡ [] }
     {
@@ -60,6 +61,7 @@ impl<const N: usize> Text<N> {
         self
     }
 
+    /// The bytes of the text, without the room that is left.
     pub fn as_bytes(&self) -> &[u8]
         ensures value { result.now ≡ self.now }
         ensures ascii { IsAscii self.now }
@@ -68,6 +70,7 @@ impl<const N: usize> Text<N> {
         &self.bytes[..self.len as usize]
     }
 
+    /// The text, without the room that is left.
     pub fn as_str(&self) -> &str
         ensures value { result.now ≡ self.now }
         ensures ascii { IsAscii self.now }

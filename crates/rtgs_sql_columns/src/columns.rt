@@ -43,6 +43,7 @@ pub fn check_mark(state: OrderState) -> Result<(), Error>
     }
 }
 
+/// A number as an integer of a table.
 pub fn number_value(n: u64) -> ValueRef<'static>
     requires { n < 2 ^ 63 }
     ensures { owned result ≡ Int (pos n) }
@@ -127,12 +128,14 @@ pub fn cents_value(cents: Cents) -> ValueRef<'static>
     ValueRef::Int(cents.cents())
 }
 
+/// Bytes as a text of a table. They are not copied.
 pub fn text(bytes: &[u8]) -> ValueRef<'_>
     ensures { owned result ≡ TextValue bytes.now }
 {
     ValueRef::Text(bytes)
 }
 
+/// Bytes as a blob of a table. They are not copied.
 pub fn blob(bytes: &[u8]) -> ValueRef<'_>
     ensures { owned result ≡ Blob bytes.now }
 {
@@ -159,6 +162,7 @@ pub fn text_of(date: Option<BusinessDate>) -> Option<Text<10>>
     }
 }
 
+/// A text as a text of a table, or NULL where there is none.
 pub fn text_or_null(text: &Option<Text<10>>) -> ValueRef<'_>
     ensures { owned result ≡ or_null TextValue text.now }
 {

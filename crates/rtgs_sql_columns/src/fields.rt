@@ -25,6 +25,7 @@ pub fn width(row: &Row, wide: usize) -> Option<()>
     }
 }
 
+/// The integer in this column, counted from 0, if it holds one.
 pub fn int(row: &Row, at: usize) -> Option<i64>
     ensures found { (n : ℤ) → at < length row.now → column row.now at ≡ Int n → result ≡ Some n }
     ensures is { IfSome result (λ n. column row.now at ≡ Int n) }
@@ -95,6 +96,7 @@ pub fn is_null(row: &Row, at: usize) -> bool
     matches!(row.get_ref(at), Ok(ValueRef::Null))
 }
 
+/// The code in this column, counted from 0, if it holds the text of one.
 pub fn code(row: &Row, at: usize) -> Option<Code>
     ensures found { (code : List ℕ) → IsCode code → at < length row.now → column row.now at ≡ Text code
         → result ≡ Some code }
@@ -103,6 +105,7 @@ pub fn code(row: &Row, at: usize) -> Option<Code>
     Code::read(text(row, at)?).ok()
 }
 
+/// The reference in this column, counted from 0, if it holds the text of one.
 pub fn reference(row: &Row, at: usize) -> Option<Reference>
     ensures found { (reference : List ℕ) → IsReference reference → at < length row.now
         → column row.now at ≡ Text reference → result ≡ Some reference }
@@ -111,6 +114,7 @@ pub fn reference(row: &Row, at: usize) -> Option<Reference>
     Reference::read(text(row, at)?).ok()
 }
 
+/// The name in this column, counted from 0, if it holds the text of one.
 pub fn name(row: &Row, at: usize) -> Option<Name>
     ensures found { (name : List ℕ) → IsName name → at < length row.now → column row.now at ≡ Text name
         → result ≡ Some name }
@@ -119,6 +123,7 @@ pub fn name(row: &Row, at: usize) -> Option<Name>
     Name::read(text(row, at)?).ok()
 }
 
+/// The date in this column, counted from 0, if it holds the text of one.
 pub fn date(row: &Row, at: usize) -> Option<BusinessDate>
     ensures found { (date : ℕ) → IsBusinessDate date → at < length row.now → column row.now at ≡ Text (date_text date)
         → result ≡ Some date }

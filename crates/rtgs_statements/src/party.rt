@@ -13,6 +13,7 @@ pub enum Party {
 }
 
 impl Party {
+    /// The code of this party to the order: of its sender, or of its receiver.
     pub fn code(self, order: &Order) -> Code
         ensures { result ≡ party_code self order.now }
     {

@@ -24,6 +24,7 @@ pub struct Row {
 }
 
 impl Row {
+    /// The row that shows a posting.
     pub fn of_posting(posting: &Posting) -> Row
         ensures { result ≡ row_of_posting posting.now }
     {
@@ -62,6 +63,7 @@ impl Row {
         }
     }
 
+    /// The row as it is printed. The only error is lack of memory.
     pub fn text(&self, alloc: Global) -> Result<String, AllocError>
         ensures { IfOk result (λ line. string_bytes line ≡ row_text self.now) }
     {

@@ -79,6 +79,7 @@ impl Ledger {
         let _accounts = self.records.accounts.as_slice();
     }
 
+    /// The business day: its phase, and its date once one was opened.
     pub fn day(&self) -> Day
         ensures { result ≡ self.now.core.day }
     {

@@ -16,6 +16,7 @@ pub struct QueueNumbers {
 }
 
 impl QueueNumbers {
+    /// Queues in which no sender has an order yet.
     pub fn new(alloc: Global) -> Self
         ensures { (sender : List ℕ) → numbers_of result sender ≡ [] }
     {

@@ -24,6 +24,7 @@ pub fn parties_are_known(alloc: Global, book: &Book) -> Result<bool, AllocError>
     Ok(are_among(&codes, book))
 }
 
+/// The codes of the participants, in their order. The only error is lack of memory.
 pub fn codes_of(alloc: Global, participants: &[Participant]) -> Result<Vec<Code>, AllocError>
     ensures { IfOk result (λ codes. codes.items ≡ map (λ (p : Participant). p.code) participants.now) }
 {
