@@ -17,8 +17,8 @@ use Rattle.rtgs_book.specs.declared.refusal.Refusal.TheVariants.{WrongDate, Week
 use Rattle.rtgs_book.specs.declared.refusal.Refusal.TheVariants.{DueNotLater}
 use Rattle.rtgs_book.specs.declared.limits.TheConstants.{MOST_PARTICIPANTS, LONGEST_QUEUE, LARGEST_NUMBER}
 use Rattle.rtgs_book.specs.declared.limits.TheConstants.{LARGEST_TOTAL}
-use Rattle.rtgs_book.specs.Books.{Book, Day, Closed, Open, CutOff, Participant, Posting, Order, OrderState, Queued}
-use Rattle.rtgs_book.specs.Books.{Held, Withdrawn, Rejected, is_closed, is_open, is_cut_off, is_queued, is_held}
+use Rattle.rtgs_book.specs.Books.{Book, Day, Closed, Open, CutOff, Participant, Posting, Order, NewOrder, OrderState}
+use Rattle.rtgs_book.specs.Books.{Queued, Held, Withdrawn, Rejected, is_closed, is_open, is_cut_off, is_queued, is_held}
 use Rattle.rtgs_book.specs.Books.{is_waiting, is_withdrawn_state, is_empty}
 use Rattle.rtgs_book.specs.Lookup.{has_code, accounts, participant_of, is_participant, order_named, posting_named}
 use Rattle.rtgs_book.specs.Balance.{balance, floor, total}
@@ -143,11 +143,24 @@ is_due_by date (Some due) = nat_le due date
 
 -- ---- orders
 
--- the order has this content
-abbrev pub is_same_order : Option Order → List ℕ → ℕ → Option ℕ → Bool
-is_same_order None receiver amount due = false
-is_same_order (Some order) receiver amount due =
-    bytes_eq order.receiver receiver && (order.amount == amount) && is_same_due order.due due
+-- what was said of the order when it was sent
+abbrev pub as_sent : Order → NewOrder
+as_sent order = record {
+  reference = order.reference;
+  receiver = order.receiver;
+  amount = order.amount;
+  due = order.due;
+}
+
+-- the same is said, whatever the references
+abbrev pub says_the_same : NewOrder → NewOrder → Bool
+says_the_same one other =
+    bytes_eq one.receiver other.receiver && (one.amount == other.amount) && is_same_due one.due other.due
+
+-- there is an order, and it was sent with this content
+abbrev pub is_same_order : Option Order → NewOrder → Bool
+is_same_order None new_order = false
+is_same_order (Some order) new_order = says_the_same (as_sent order) new_order
 
 abbrev pub known_order : Option Order → OwnReply
 known_order None = repeated
@@ -159,8 +172,8 @@ settles_at_once book sender amount =
     is_empty (queue book sender) && int_le (floor book sender) (balance book sender -ℤ pos amount)
 
 -- so without a due date
-abbrev pub settles_now : Book → List ℕ → ℕ → Option ℕ → Bool
-settles_now book sender amount due = is_none due && settles_at_once book sender amount
+abbrev pub settles_now : Book → List ℕ → NewOrder → Bool
+settles_now book sender new_order = is_none new_order.due && settles_at_once book sender new_order.amount
 
 abbrev pub has_number : ℕ → Order → Bool
 has_number number order = order.number == number
@@ -170,18 +183,23 @@ abbrev pub first_state : Option ℕ → OrderState
 first_state None = Queued
 first_state (Some due) = Held
 
--- a new order: at the end of its sender's queue, or held until its due date
-abbrev pub new_order : Book → List ℕ → List ℕ → List ℕ → ℕ → Option ℕ → Order
-new_order book sender reference receiver amount due = record {
-  number = length book.orders + 1;
+-- what a sender says, as an order with this number and of this date
+abbrev pub order_numbered : ℕ → List ℕ → NewOrder → ℕ → Order
+order_numbered number sender new_order date = record {
+  number = number;
   sender = sender;
-  reference = reference;
-  receiver = receiver;
-  amount = amount;
-  date = unwrap_or due (today book);
-  due = due;
-  state = first_state due;
+  reference = new_order.reference;
+  receiver = new_order.receiver;
+  amount = new_order.amount;
+  date = date;
+  due = new_order.due;
+  state = first_state new_order.due;
 }
+
+-- a new order that is taken: at the end of its sender's queue, or held until its due date
+abbrev pub taken_order : Book → List ℕ → NewOrder → Order
+taken_order book sender new_order =
+    order_numbered (length book.orders + 1) sender new_order (unwrap_or new_order.due (today book))
 
 abbrev pub with_order : Book → Order → Book
 with_order book order = record book { orders = book.orders ++ order ∷ [] }
@@ -199,22 +217,22 @@ abbrev pub takes_due : Book → Order → Option ℕ → Outcome
 takes_due book order None = takes book order
 takes_due book order (Some due) = accepts (answer.Held order.number due) (with_order book order)
 
-unfoldable pub order : Book → List ℕ → List ℕ → List ℕ → ℕ → Option ℕ → Outcome
-order book sender reference receiver amount due =
-    let found = order_named book sender reference in
+unfoldable pub order : Book → List ℕ → NewOrder → Outcome
+order book sender new_order =
+    let found = order_named book sender new_order.reference in
     first_of book (
     (not (is_participant book sender), Err UnknownParticipant)
-    ∷ (is_same_order found receiver amount due, known_order found)
+    ∷ (is_same_order found new_order, known_order found)
     ∷ (is_some found, Err ReferenceUsed)
     ∷ (not (is_open book.day.phase), Err NotOpen)
-    ∷ (not (is_participant book receiver), Err UnknownReceiver)
-    ∷ (bytes_eq sender receiver, Err SameParty)
-    ∷ (is_due_too_early book due, Err DueNotLater)
-    ∷ (is_due_on_a_weekend due, Err Weekend)
+    ∷ (not (is_participant book new_order.receiver), Err UnknownReceiver)
+    ∷ (bytes_eq sender new_order.receiver, Err SameParty)
+    ∷ (is_due_too_early book new_order.due, Err DueNotLater)
+    ∷ (is_due_on_a_weekend new_order.due, Err Weekend)
     ∷ (nat_le LARGEST_NUMBER (length book.orders), Err NumbersUsedUp)
-    ∷ (not (settles_now book sender amount due) && nat_le LONGEST_QUEUE (length (waiting book sender)), Err QueueFull)
+    ∷ (not (settles_now book sender new_order) && nat_le LONGEST_QUEUE (length (waiting book sender)), Err QueueFull)
     ∷ []
-    ) (takes_due book (new_order book sender reference receiver amount due) due)
+    ) (takes_due book (taken_order book sender new_order) new_order.due)
 
 abbrev pub is_withdrawn_order : Option Order → Bool
 is_withdrawn_order None = false

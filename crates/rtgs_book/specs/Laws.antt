@@ -30,7 +30,7 @@ pub record KeepsWhatIsFinal (old new : Book) : Type 0 where
 abbrev pub CommandFits : Command → Type 0
 CommandFits (SetCredit code credit) = IsCredit credit
 CommandFits (Post code reference cents) = IsPostingAmount cents
-CommandFits (PlaceOrder sender reference receiver amount due) = IsAmount amount
+CommandFits (PlaceOrder sender new_order) = IsAmount new_order.amount
 CommandFits command = ⊤
 
 -- where the order has a due date, each of these marks that settled it is of that date or a later one

@@ -1,12 +1,12 @@
 -- Lists of commands.
-use Rattle.std.specs.Prelude.{◌≡◌, Bool, false, ◌&&◌, ◌||◌, ◌==◌, if◌then◌else◌, List, [], ◌∷◌}
+use Rattle.std.specs.Prelude.{◌≡◌, Bool, false, ◌&&◌, ◌||◌, if◌then◌else◌, List, [], ◌∷◌}
 use Rattle.std.specs.List.{list_any}
 use Rattle.std.specs.Str.{bytes_eq}
 use Rattle.std.specs.Ordering.{int_eq}
 use Rattle.rtgs_book.specs.declared.command.Command.TheVariants.{Post, Order}
 use Rattle.rtgs_book.specs.Books.{Book}
 use Rattle.rtgs_book.specs.Lookup.{order_named, posting_named}
-use Rattle.rtgs_book.specs.Commands.{is_same_due, is_same_order, is_same_posting}
+use Rattle.rtgs_book.specs.Commands.{says_the_same, is_same_order, is_same_posting}
 use Rattle.rtgs_book.specs.Outcome.{Command, Reply, own_of, is_done}
 use Rattle.rtgs_book.specs.Step.{Step}
 
@@ -24,15 +24,14 @@ is_accepted reply = is_done (own_of reply)
 
 -- two orders, or two postings, with one name and one content
 abbrev pub is_same_entry : Command → Command → Bool
-is_same_entry (Order s r to amount due) (Order s' r' to' amount' due') = bytes_eq s s' && bytes_eq r r'
-    && bytes_eq to to' && (amount == amount') && is_same_due due due'
+is_same_entry (Order s one) (Order s' other) = bytes_eq s s' && bytes_eq one.reference other.reference
+    && says_the_same one other
 is_same_entry (Post code r cents) (Post code' r' cents') = bytes_eq code code' && bytes_eq r r' && int_eq cents cents'
 is_same_entry one other = false
 
 -- the book has the order or the posting, with that content
 abbrev pub is_recorded : Book → Command → Bool
-is_recorded book (Order sender reference receiver amount due) = is_same_order
-    (order_named book sender reference) receiver amount due
+is_recorded book (Order sender new_order) = is_same_order (order_named book sender new_order.reference) new_order
 is_recorded book (Post code reference cents) = is_same_posting (posting_named book reference) code cents
 is_recorded book command = false
 

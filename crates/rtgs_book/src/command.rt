@@ -5,7 +5,8 @@
 //! says that the amounts of a command are in their ranges. Whether it comes again as a repeat stands in `Lasting.antt`
 //! of `rtgs_laws::repeats`, and who may send it in `Access.antt` of `rtgs_http_requests` and the routes of its module
 //! `heads`.
-use rtgs_money::{Amount, BusinessDate, Code, Credit, KeyDigest, Name, PostingAmount, Reference};
+use crate::new_order::NewOrder;
+use rtgs_money::{BusinessDate, Code, Credit, KeyDigest, Name, PostingAmount, Reference};
 
 /// What the desk can be asked to do.
 #[derive(Clone, Copy, Debug, PartialEq, Eq)]
@@ -36,10 +37,7 @@ pub enum Command {
     /// Pays, at once or after the orders that are queued; with a due date, not before that date.
     Order {
         sender: Code,
-        reference: Reference,
-        receiver: Code,
-        amount: Amount,
-        due: Option<BusinessDate>,
+        order: NewOrder,
     },
     /// Takes back an order that is queued or held.
     Withdraw {

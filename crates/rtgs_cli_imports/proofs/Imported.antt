@@ -10,7 +10,7 @@ use Rattle.rtgs_desk.specs.Holding.{Holds}
 use Rattle.rtgs_desk.specs.Seen.{Seen}
 use Rattle.rtgs_desk.specs.batches.Batches.{StopsAfter}
 use Rattle.rtgs_order_files.specs.declared.batch_result.RowReply.{RowReply}
-use Rattle.rtgs_order_files.specs.declared.order_row.OrderRow.{OrderRow}
+use Rattle.rtgs_book.specs.declared.new_order.NewOrder.{NewOrder}
 use Rattle.rtgs_book_file.specs.OverFile.{OverFile}
 use Rattle.rtgs_cli_files.specs.Done.{IsIdle}
 use Rattle.rtgs_cli_files.specs.Touching.{IsClosed}
@@ -39,7 +39,7 @@ either_way first second (inr q) = inr (second q)
 module _ {K U C : Type 0} (file : OverFile K U C) {opened lent left finished : Seen K} (lends : lent ≡ opened)
     (same : finished ≡ left) (over : file.keeper.is_honest opened.keeper → file.was_opened opened)
     (honest : file.keeper.is_honest left.keeper → file.keeper.is_honest lent.keeper) {V W : Type 0} where
-  pub was_sent : (sent : Result V W) (sender : List ℕ) (rows_of : V → List OrderRow) (replies_of : V → List RowReply)
+  pub was_sent : (sent : Result V W) (sender : List ℕ) (rows_of : V → List NewOrder) (replies_of : V → List RowReply)
       (stop_of : V → Option Refusal) → IfOk sent (λ it. file.keeper.is_honest left.keeper
       → (book : Book) → Holds file.keeper lent book
       → SentOver file book sender (rows_of it) (replies_of it) (stop_of it) left)
@@ -68,7 +68,7 @@ module _ {K B U C E V W : Type 0} (file : OverFile K U C) (desk_of : B → Seen 
   sent = traces.Book closed (used.Orders read)
 
   -- the book to which the rows of a batch were sent
-  pub imported_with : (sender : List ℕ) (rows_of : V → List OrderRow) (replies_of : V → List RowReply)
+  pub imported_with : (sender : List ℕ) (rows_of : V → List NewOrder) (replies_of : V → List RowReply)
       (stop_of : V → Option Refusal)
       → IfOk finished (λ p. IfOk p.1.0 (λ it. AreRowsOf (λ bytes. bytes.items) p.1.1.value.answer (rows_of it)))
       → IfOk finished (λ p. IfOk p.1.0 (λ it.

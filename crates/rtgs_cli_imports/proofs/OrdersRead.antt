@@ -8,12 +8,12 @@ use Rattle.rtgs_cli_lines.specs.declared.failure.Failure.{Failure}
 use Rattle.rtgs_cli_lines.specs.declared.failure.Failure.TheVariants.{Refused, Orders}
 use Rattle.rtgs_order_files.specs.OrderFile.{IsOrderFile, IsFaultOf}
 use Rattle.rtgs_order_files.specs.declared.batch_fault.BatchFault.{BatchFault}
-use Rattle.rtgs_order_files.specs.declared.order_row.OrderRow.{OrderRow}
+use Rattle.rtgs_book.specs.declared.new_order.NewOrder.{NewOrder}
 use Rattle.rtgs_cli_imports.specs.Causes.{failure_of_reading, IsFileTaken, AreRowsOf, RefusesRows}
 
 module _ {V : Type 0} (bytes_of : V → List ℕ) where
   -- the rows of what was taken are those of what was read
-  pub rows_taken : (read : Result V Error) (bytes : V) → IsFileTaken bytes_of read (Ok bytes) → (rows : List OrderRow)
+  pub rows_taken : (read : Result V Error) (bytes : V) → IsFileTaken bytes_of read (Ok bytes) → (rows : List NewOrder)
       → IsOrderFile (bytes_of bytes) rows → AreRowsOf bytes_of read rows
   rows_taken (Ok read) bytes taken rows are = (taken.1, subst (λ bytes. IsOrderFile bytes rows) taken.0 are)
   rows_taken (Err error) bytes taken rows are =

@@ -8,7 +8,7 @@ use Rattle.rtgs_book.specs.declared.refusal.Refusal.TheVariants.{OutOfMemory}
 use Rattle.rtgs_order_files.specs.OrderFile.{IsOrderFile, IsFaultOf}
 use Rattle.rtgs_order_files.specs.declared.batch_fault.BatchFault.{BatchFault}
 use Rattle.rtgs_order_files.specs.declared.limits.TheConstants.{MOST_BYTES}
-use Rattle.rtgs_order_files.specs.declared.order_row.OrderRow.{OrderRow}
+use Rattle.rtgs_book.specs.declared.new_order.NewOrder.{NewOrder}
 use Rattle.rtgs_cli_lines.specs.declared.failure.Failure.{Failure}
 use Rattle.rtgs_cli_lines.specs.declared.failure.Failure.TheVariants.{Refused, Orders, OrdersTooLong, NoOrders}
 
@@ -25,7 +25,7 @@ IsFileTaken bytes_of (Ok read) (Err failure) = (failure ≡ OrdersTooLong) × (M
 IsFileTaken bytes_of (Err error) result = result ≡ Err (failure_of_reading (error_kind error))
 
 -- the rows of a file of orders, as its bytes were read
-abbrev pub AreRowsOf : {V : Type 0} → (V → List ℕ) → Result V Error → List OrderRow → Type 0
+abbrev pub AreRowsOf : {V : Type 0} → (V → List ℕ) → Result V Error → List NewOrder → Type 0
 AreRowsOf bytes_of (Ok read) rows = (length (bytes_of read) ≤ MOST_BYTES) × IsOrderFile (bytes_of read) rows
 AreRowsOf bytes_of (Err error) rows = ⊥
 

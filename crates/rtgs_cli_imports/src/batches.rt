@@ -10,11 +10,12 @@ ghost use Rattle.rtgs_order_files.specs.Results.{results_text};
 ghost use Rattle.rtgs_desk.specs.batches.Sent.{Sent};
 ghost use Rattle.rtgs_order_files.specs.declared.BatchFault.{BatchFault};
 
+use rtgs_book::NewOrder;
 use rtgs_cli_lines::{Failure, Printed};
 use rtgs_desk::{Desk, submit_batch};
 use rtgs_keeper::Keeper;
 use rtgs_money::Code;
-use rtgs_order_files::{BatchResult, OrderRow, read_orders, write_results};
+use rtgs_order_files::{BatchResult, read_orders, write_results};
 use std::alloc::Global;
 use std::io::Write;
 
@@ -25,7 +26,7 @@ pub fn submit_orders<K: Keeper>(
     desk: &mut Desk<K>,
     sender: Code,
     bytes: &[u8],
-) -> Result<(Vec<OrderRow>, BatchResult), Failure>
+) -> Result<(Vec<NewOrder>, BatchResult), Failure>
     ensures rows { IfOk result (λ (rows, batch). IsOrderFile bytes.now rows.items) }
     ensures stopped { IfOk result (λ (rows, batch).
         StopsAfter (length batch.replies.items) (length rows.items) batch.stopped) }
@@ -51,7 +52,7 @@ pub fn submit_orders<K: Keeper>(
 pub fn print_results<O: Write>(
     alloc: Global,
     out: &mut O,
-    rows: &[OrderRow],
+    rows: &[NewOrder],
     batch: &BatchResult,
 ) -> Result<Printed, Failure>
     ensures printed { IfOk result (λ printed. Prints (results_text rows.now batch.now.replies.items batch.now.stopped)

@@ -16,6 +16,7 @@ ghost use Rattle.rtgs_cli_imports.specs.Imports.{HasSent, IsNotImported, IsSent,
 
 use crate::batches::{print_results, submit_orders};
 use crate::order_file::OrderFile;
+use rtgs_book::NewOrder;
 use rtgs_book_file::stored_desk::laws::what_a_session_leaves;
 use rtgs_book_file::{FileKeeper, Start};
 use rtgs_cli_files::{Acted, Finished, Touched, Used, close_book, failure_of_unopened, open};
@@ -23,13 +24,13 @@ use rtgs_cli_lines::{Failure, Printed};
 use rtgs_desk::Desk;
 use rtgs_keeper::Keeper;
 use rtgs_money::Code;
-use rtgs_order_files::{BatchResult, OrderRow};
+use rtgs_order_files::BatchResult;
 use std::alloc::Global;
 use std::io::Write;
 use std::snapshot::Snapshot;
 
 // The rows of a file of orders with their results, or why they were not submitted.
-type Sent = Result<(Vec<OrderRow>, BatchResult), Failure>;
+type Sent = Result<(Vec<NewOrder>, BatchResult), Failure>;
 
 /// Submits a participant's file of orders to the desk over a file, and prints the results. A batch that stopped ends
 /// the run as stopped. Where memory is wanting for the results, the orders stand, and nothing is printed.

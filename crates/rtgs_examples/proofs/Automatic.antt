@@ -8,13 +8,13 @@ use Rattle.rtgs_book.specs.Commands.{order, resolve, post, open_day, cut_off, cl
 use Rattle.rtgs_book.specs.Outcome.{Outcome, alone}
 use Rattle.rtgs_book.specs.Procedure.{everything, taken_back, All, Without_newest}
 use Rattle.rtgs_examples.specs.Examples.{alfa, beta, gama, monday, tuesday, start, automatic_start, pays, pays_on}
-use Rattle.rtgs_examples.specs.Examples.{and_settles, ComesWholeFrom}
+use Rattle.rtgs_examples.specs.Examples.{says, and_settles, ComesWholeFrom}
 use Rattle.rtgs_examples.proofs.Computed.{computed, FindsGreatest}
 
 -- ---- a ring that its last order closes
 
 abbrev ring_1 : Outcome
-ring_1 = order automatic_start alfa (codes "A-1") beta 100 None
+ring_1 = order automatic_start alfa (says (codes "A-1") beta 100 None)
 
 abbrev ring_1_choice : Choice
 ring_1_choice = taken_back alfa (everything ring_1.book)
@@ -26,7 +26,7 @@ ring_1_greatest law = law ring_1.book ring_1_choice
     (record { le = tt }, (record { le = tt }, (record { le = tt }, tt)))
 
 abbrev ring_2 : Outcome
-ring_2 = order ring_1.book beta (codes "B-1") gama 100 None
+ring_2 = order ring_1.book beta (says (codes "B-1") gama 100 None)
 
 abbrev ring_2_choice : Choice
 ring_2_choice = taken_back beta (taken_back alfa (everything ring_2.book))
@@ -39,7 +39,7 @@ ring_2_greatest law = law ring_2.book ring_2_choice
     (record { le = tt }, (record { le = tt }, (record { le = tt }, tt)))
 
 abbrev ring_3 : Outcome
-ring_3 = order ring_2.book gama (codes "G-1") alfa 100 None
+ring_3 = order ring_2.book gama (says (codes "G-1") alfa 100 None)
 
 abbrev ring_3_choice : Choice
 ring_3_choice = everything ring_3.book
@@ -106,7 +106,7 @@ two_1_greatest law = law two_1.book two_1_choice
     (record { le = tt }, (record { le = tt }, (record { le = tt }, tt)))
 
 abbrev two_2 : Outcome
-two_2 = order two_1.book alfa (codes "A-1") gama 20 None
+two_2 = order two_1.book alfa (says (codes "A-1") gama 20 None)
 
 abbrev two_2_choice : Choice
 two_2_choice = taken_back alfa (everything two_2.book)
@@ -118,7 +118,7 @@ two_2_greatest law = law two_2.book two_2_choice
     (record { le = tt }, (record { le = tt }, (record { le = tt }, tt)))
 
 abbrev two_3 : Outcome
-two_3 = order two_2.book beta (codes "B-1") alfa 30 None
+two_3 = order two_2.book beta (says (codes "B-1") alfa 30 None)
 
 abbrev two_3_choice : Choice
 two_3_choice = everything two_3.book
@@ -162,7 +162,7 @@ abbrev due_1 : Outcome
 due_1 = post start alfa (codes "P-1") (pos 60)
 
 abbrev due_2 : Outcome
-due_2 = order due_1.book alfa (codes "A-1") beta 60 (Some tuesday)
+due_2 = order due_1.book alfa (says (codes "A-1") beta 60 (Some tuesday))
 
 abbrev due_3 : Outcome
 due_3 = cut_off due_2.book monday

@@ -22,7 +22,8 @@ use Rattle.rtgs_book.specs.Commands.{order, takes, settles_at_once, resolve, set
 use Rattle.rtgs_book.specs.Commands.{open_day, cut_off, close_day, with_credit, with_state, overdrawn}
 use Rattle.rtgs_book.specs.Procedure.{everything, taken_back, Reaches, All, Without_newest}
 use Rattle.rtgs_examples.proofs.WholeRuns.{as_whole_run}
-use Rattle.rtgs_examples.specs.Examples.{alfa, beta, gama, zeta, monday, start, unopened, pays, Comes, ComesFrom}
+use Rattle.rtgs_examples.specs.Examples.{alfa, beta, gama, zeta, monday, start, unopened, says, pays, Comes}
+use Rattle.rtgs_examples.specs.Examples.{ComesFrom}
 
 -- All that the examples compute with, named once: a proof that names this one unfolds them all.
 unfoldable pub computed : ⊤
@@ -39,13 +40,13 @@ FindsGreatest = (book : Book) (choice : Choice) → Reaches book choice → AllB
 -- ---- ring
 
 abbrev ring_1 : Book
-ring_1 = (order start alfa (codes "A-1") beta 100 None).book
+ring_1 = (order start alfa (says (codes "A-1") beta 100 None)).book
 
 abbrev ring_2 : Book
-ring_2 = (order ring_1 beta (codes "B-1") gama 100 None).book
+ring_2 = (order ring_1 beta (says (codes "B-1") gama 100 None)).book
 
 abbrev ring_3 : Book
-ring_3 = (order ring_2 gama (codes "G-1") alfa 100 None).book
+ring_3 = (order ring_2 gama (says (codes "G-1") alfa 100 None)).book
 
 abbrev ring_4_choice : Choice
 ring_4_choice = (everything ring_3)
@@ -90,10 +91,10 @@ ring_comes law = (
 -- ---- deadlock
 
 abbrev deadlock_1 : Book
-deadlock_1 = (order start alfa (codes "A-1") beta 100 None).book
+deadlock_1 = (order start alfa (says (codes "A-1") beta 100 None)).book
 
 abbrev deadlock_2 : Book
-deadlock_2 = (order deadlock_1 beta (codes "B-1") gama 90 None).book
+deadlock_2 = (order deadlock_1 beta (says (codes "B-1") gama 90 None)).book
 
 abbrev deadlock_3_choice : Choice
 deadlock_3_choice = (taken_back beta (taken_back alfa (everything deadlock_2)))
@@ -165,13 +166,13 @@ deadlock_comes law = (
 -- ---- partial
 
 abbrev partial_1 : Book
-partial_1 = (order start alfa (codes "A-1") beta 100 None).book
+partial_1 = (order start alfa (says (codes "A-1") beta 100 None)).book
 
 abbrev partial_2 : Book
-partial_2 = (order partial_1 alfa (codes "A-2") gama 50 None).book
+partial_2 = (order partial_1 alfa (says (codes "A-2") gama 50 None)).book
 
 abbrev partial_3 : Book
-partial_3 = (order partial_2 beta (codes "B-1") alfa 100 None).book
+partial_3 = (order partial_2 beta (says (codes "B-1") alfa 100 None)).book
 
 abbrev partial_4_choice : Choice
 partial_4_choice = (taken_back alfa (everything partial_3))
@@ -208,19 +209,19 @@ abbrev cascade_1 : Book
 cascade_1 = (post start alfa (codes "P-1") (pos 10)).book
 
 abbrev cascade_2 : Book
-cascade_2 = (order cascade_1 alfa (codes "A-1") beta 60 None).book
+cascade_2 = (order cascade_1 alfa (says (codes "A-1") beta 60 None)).book
 
 abbrev cascade_3 : Book
-cascade_3 = (order cascade_2 alfa (codes "A-2") gama 10 None).book
+cascade_3 = (order cascade_2 alfa (says (codes "A-2") gama 10 None)).book
 
 abbrev cascade_4 : Book
-cascade_4 = (order cascade_3 beta (codes "B-1") alfa 50 None).book
+cascade_4 = (order cascade_3 beta (says (codes "B-1") alfa 50 None)).book
 
 abbrev cascade_5 : Book
-cascade_5 = (order cascade_4 beta (codes "B-2") gama 20 None).book
+cascade_5 = (order cascade_4 beta (says (codes "B-2") gama 20 None)).book
 
 abbrev cascade_6 : Book
-cascade_6 = (order cascade_5 gama (codes "G-1") alfa 5 None).book
+cascade_6 = (order cascade_5 gama (says (codes "G-1") alfa 5 None)).book
 
 abbrev cascade_7_choice : Choice
 cascade_7_choice = (taken_back gama (taken_back beta (taken_back alfa (everything cascade_6))))
@@ -259,16 +260,16 @@ abbrev boundary_of_credit_1 : Book
 boundary_of_credit_1 = (set_credit start alfa 100).book
 
 abbrev boundary_of_credit_2 : Book
-boundary_of_credit_2 = (order boundary_of_credit_1 alfa (codes "A-1") beta 100 None).book
+boundary_of_credit_2 = (order boundary_of_credit_1 alfa (says (codes "A-1") beta 100 None)).book
 
 abbrev boundary_of_credit_3 : Book
-boundary_of_credit_3 = (order boundary_of_credit_2 alfa (codes "A-2") beta 1 None).book
+boundary_of_credit_3 = (order boundary_of_credit_2 alfa (says (codes "A-2") beta 1 None)).book
 
 abbrev boundary_of_credit_4 : Book
-boundary_of_credit_4 = (order boundary_of_credit_3 alfa (codes "A-1") beta 100 None).book
+boundary_of_credit_4 = (order boundary_of_credit_3 alfa (says (codes "A-1") beta 100 None)).book
 
 abbrev boundary_of_credit_5 : Book
-boundary_of_credit_5 = (order boundary_of_credit_4 alfa (codes "A-1") beta 99 None).book
+boundary_of_credit_5 = (order boundary_of_credit_4 alfa (says (codes "A-1") beta 99 None)).book
 
 abbrev boundary_of_credit_6 : Book
 boundary_of_credit_6 = (set_credit boundary_of_credit_5 alfa 99).book
@@ -303,10 +304,10 @@ abbrev no_bypass_1 : Book
 no_bypass_1 = (post start alfa (codes "P-1") (pos 100)).book
 
 abbrev no_bypass_2 : Book
-no_bypass_2 = (order no_bypass_1 alfa (codes "A-1") beta 150 None).book
+no_bypass_2 = (order no_bypass_1 alfa (says (codes "A-1") beta 150 None)).book
 
 abbrev no_bypass_3 : Book
-no_bypass_3 = (order no_bypass_2 alfa (codes "A-2") beta 20 None).book
+no_bypass_3 = (order no_bypass_2 alfa (says (codes "A-2") beta 20 None)).book
 
 abbrev no_bypass_4_choice : Choice
 no_bypass_4_choice = (taken_back alfa (taken_back alfa (everything no_bypass_3)))
@@ -343,10 +344,10 @@ abbrev finality_1 : Book
 finality_1 = (set_credit start alfa 100).book
 
 abbrev finality_2 : Book
-finality_2 = (order finality_1 alfa (codes "A-1") beta 100 None).book
+finality_2 = (order finality_1 alfa (says (codes "A-1") beta 100 None)).book
 
 abbrev finality_3 : Book
-finality_3 = (order finality_2 alfa (codes "A-2") beta 1 None).book
+finality_3 = (order finality_2 alfa (says (codes "A-2") beta 1 None)).book
 
 abbrev finality_4 : Book
 finality_4 = (withdraw finality_3 alfa (codes "A-1")).book
@@ -414,22 +415,22 @@ largest_posting_comes = (
 -- ---- cut off stops orders
 
 abbrev cut_off_stops_orders_1 : Book
-cut_off_stops_orders_1 = (order start alfa (codes "A-1") beta 100 None).book
+cut_off_stops_orders_1 = (order start alfa (says (codes "A-1") beta 100 None)).book
 
 abbrev cut_off_stops_orders_2 : Book
-cut_off_stops_orders_2 = (order cut_off_stops_orders_1 beta (codes "B-1") alfa 100 None).book
+cut_off_stops_orders_2 = (order cut_off_stops_orders_1 beta (says (codes "B-1") alfa 100 None)).book
 
 abbrev cut_off_stops_orders_3 : Book
-cut_off_stops_orders_3 = (order cut_off_stops_orders_2 gama (codes "G-1") alfa 1 None).book
+cut_off_stops_orders_3 = (order cut_off_stops_orders_2 gama (says (codes "G-1") alfa 1 None)).book
 
 abbrev cut_off_stops_orders_4 : Book
 cut_off_stops_orders_4 = (cut_off cut_off_stops_orders_3 monday).book
 
 abbrev cut_off_stops_orders_5 : Book
-cut_off_stops_orders_5 = (order cut_off_stops_orders_4 alfa (codes "A-2") beta 5 None).book
+cut_off_stops_orders_5 = (order cut_off_stops_orders_4 alfa (says (codes "A-2") beta 5 None)).book
 
 abbrev cut_off_stops_orders_6 : Book
-cut_off_stops_orders_6 = (order cut_off_stops_orders_5 alfa (codes "A-1") beta 100 None).book
+cut_off_stops_orders_6 = (order cut_off_stops_orders_5 alfa (says (codes "A-1") beta 100 None)).book
 
 abbrev cut_off_stops_orders_7 : Book
 cut_off_stops_orders_7 = (withdraw cut_off_stops_orders_6 gama (codes "G-1")).book
@@ -469,13 +470,13 @@ cut_off_stops_orders_comes law = (
 -- ---- close with gridlock
 
 abbrev close_with_gridlock_1 : Book
-close_with_gridlock_1 = (order start alfa (codes "A-1") beta 100 None).book
+close_with_gridlock_1 = (order start alfa (says (codes "A-1") beta 100 None)).book
 
 abbrev close_with_gridlock_2 : Book
-close_with_gridlock_2 = (order close_with_gridlock_1 beta (codes "B-1") gama 100 None).book
+close_with_gridlock_2 = (order close_with_gridlock_1 beta (says (codes "B-1") gama 100 None)).book
 
 abbrev close_with_gridlock_3 : Book
-close_with_gridlock_3 = (order close_with_gridlock_2 gama (codes "G-1") alfa 100 None).book
+close_with_gridlock_3 = (order close_with_gridlock_2 gama (says (codes "G-1") alfa 100 None)).book
 
 abbrev close_with_gridlock_4_choice : Choice
 close_with_gridlock_4_choice = (everything close_with_gridlock_3)
@@ -526,10 +527,10 @@ abbrev close_with_overdraft_1 : Book
 close_with_overdraft_1 = (set_credit start alfa 100).book
 
 abbrev close_with_overdraft_2 : Book
-close_with_overdraft_2 = (order close_with_overdraft_1 alfa (codes "A-1") beta 100 None).book
+close_with_overdraft_2 = (order close_with_overdraft_1 alfa (says (codes "A-1") beta 100 None)).book
 
 abbrev close_with_overdraft_3 : Book
-close_with_overdraft_3 = (order close_with_overdraft_2 alfa (codes "A-2") beta 1 None).book
+close_with_overdraft_3 = (order close_with_overdraft_2 alfa (says (codes "A-2") beta 1 None)).book
 
 abbrev close_with_overdraft_4 : Book
 close_with_overdraft_4 = (cut_off close_with_overdraft_3 monday).book
@@ -587,19 +588,19 @@ abbrev first_day_2 : Book
 first_day_2 = (resolve first_day_1 first_day_2_choice).book
 
 abbrev first_day_3 : Book
-first_day_3 = (order first_day_2 alfa (codes "A-1") beta 1 None).book
+first_day_3 = (order first_day_2 alfa (says (codes "A-1") beta 1 None)).book
 
 abbrev first_day_4 : Book
 first_day_4 = (open_day first_day_3 monday false).book
 
 abbrev first_day_5 : Book
-first_day_5 = (order first_day_4 alfa (codes "A-1") alfa 1 None).book
+first_day_5 = (order first_day_4 alfa (says (codes "A-1") alfa 1 None)).book
 
 abbrev first_day_6 : Book
-first_day_6 = (order first_day_5 alfa (codes "A-1") zeta 1 None).book
+first_day_6 = (order first_day_5 alfa (says (codes "A-1") zeta 1 None)).book
 
 abbrev first_day_7 : Book
-first_day_7 = (order first_day_6 zeta (codes "Z-1") alfa 1 None).book
+first_day_7 = (order first_day_6 zeta (says (codes "Z-1") alfa 1 None)).book
 
 abbrev first_day_commands : List Command
 first_day_commands =

@@ -12,7 +12,7 @@ use Rattle.rtgs_book.specs.Choice.{Choice, IsGreatest}
 use Rattle.rtgs_book.specs.Commands.{order, resolve, post, withdraw, open_day, cut_off, close_day}
 use Rattle.rtgs_book.specs.Procedure.{everything, taken_back, All, Without_newest}
 use Rattle.rtgs_examples.specs.Examples.{alfa, beta, gama, zeta, monday, tuesday, wednesday, thursday, saturday}
-use Rattle.rtgs_examples.specs.Examples.{start, pays, pays_on, Comes, LeavesQueue, LeavesDates}
+use Rattle.rtgs_examples.specs.Examples.{start, says, pays, pays_on, Comes, LeavesQueue, LeavesDates}
 use Rattle.rtgs_examples.proofs.WholeRuns.{as_whole_run}
 use Rattle.rtgs_examples.proofs.Computed.{computed, FindsGreatest}
 
@@ -22,22 +22,22 @@ abbrev due_1 : Book
 due_1 = (post start alfa (codes "P-1") (pos 100)).book
 
 abbrev due_2 : Book
-due_2 = (order due_1 alfa (codes "A-1") beta 60 (Some tuesday)).book
+due_2 = (order due_1 alfa (says (codes "A-1") beta 60 (Some tuesday))).book
 
 abbrev due_3 : Book
-due_3 = (order due_2 alfa (codes "A-2") beta 50 None).book
+due_3 = (order due_2 alfa (says (codes "A-2") beta 50 None)).book
 
 abbrev due_4 : Book
-due_4 = (order due_3 alfa (codes "A-1") beta 60 (Some tuesday)).book
+due_4 = (order due_3 alfa (says (codes "A-1") beta 60 (Some tuesday))).book
 
 abbrev due_5 : Book
-due_5 = (order due_4 alfa (codes "A-1") beta 60 None).book
+due_5 = (order due_4 alfa (says (codes "A-1") beta 60 None)).book
 
 abbrev due_6 : Book
-due_6 = (order due_5 alfa (codes "A-3") beta 60 (Some monday)).book
+due_6 = (order due_5 alfa (says (codes "A-3") beta 60 (Some monday))).book
 
 abbrev due_7 : Book
-due_7 = (order due_6 alfa (codes "A-3") beta 60 (Some saturday)).book
+due_7 = (order due_6 alfa (says (codes "A-3") beta 60 (Some saturday))).book
 
 abbrev due_8 : Book
 due_8 = (cut_off due_7 monday).book
@@ -58,7 +58,7 @@ abbrev due_10 : Book
 due_10 = (open_day due_9 tuesday false).book
 
 abbrev due_11 : Book
-due_11 = (order due_10 alfa (codes "A-3") gama 10 None).book
+due_11 = (order due_10 alfa (says (codes "A-3") gama 10 None)).book
 
 abbrev due_12_choice : Choice
 due_12_choice = taken_back alfa (taken_back alfa (everything due_11))
@@ -244,13 +244,13 @@ due_order_enters_its_queue_comes law = (
 -- ---- later order stays held
 
 abbrev late_1 : Book
-late_1 = (order start alfa (codes "A-1") beta 10 (Some wednesday)).book
+late_1 = (order start alfa (says (codes "A-1") beta 10 (Some wednesday))).book
 
 abbrev late_2 : Book
-late_2 = (order late_1 alfa (codes "A-2") beta 20 (Some thursday)).book
+late_2 = (order late_1 alfa (says (codes "A-2") beta 20 (Some thursday))).book
 
 abbrev late_3 : Book
-late_3 = (order late_2 alfa (codes "A-3") gama 30 (Some tuesday)).book
+late_3 = (order late_2 alfa (says (codes "A-3") gama 30 (Some tuesday))).book
 
 abbrev late_4 : Book
 late_4 = (cut_off late_3 monday).book
@@ -271,10 +271,10 @@ abbrev late_6 : Book
 late_6 = (open_day late_5 wednesday false).book
 
 abbrev late_7 : Book
-late_7 = (order late_6 alfa (codes "A-2") beta 20 (Some thursday)).book
+late_7 = (order late_6 alfa (says (codes "A-2") beta 20 (Some thursday))).book
 
 abbrev late_8 : Book
-late_8 = (order late_7 alfa (codes "A-3") gama 30 (Some tuesday)).book
+late_8 = (order late_7 alfa (says (codes "A-3") gama 30 (Some tuesday))).book
 
 abbrev later_order_stays_held_commands : List Command
 later_order_stays_held_commands =
@@ -363,25 +363,25 @@ entered_order_has_the_date_comes law = (
 -- ---- due date is content
 
 abbrev content_1 : Book
-content_1 = (order start alfa (codes "A-1") beta 60 (Some tuesday)).book
+content_1 = (order start alfa (says (codes "A-1") beta 60 (Some tuesday))).book
 
 abbrev content_2 : Book
-content_2 = (order content_1 alfa (codes "A-1") beta 60 (Some tuesday)).book
+content_2 = (order content_1 alfa (says (codes "A-1") beta 60 (Some tuesday))).book
 
 abbrev content_3 : Book
-content_3 = (order content_2 alfa (codes "A-1") beta 60 None).book
+content_3 = (order content_2 alfa (says (codes "A-1") beta 60 None)).book
 
 abbrev content_4 : Book
-content_4 = (order content_3 alfa (codes "A-1") beta 60 (Some wednesday)).book
+content_4 = (order content_3 alfa (says (codes "A-1") beta 60 (Some wednesday))).book
 
 abbrev content_5 : Book
-content_5 = (order content_4 alfa (codes "A-2") beta 60 None).book
+content_5 = (order content_4 alfa (says (codes "A-2") beta 60 None)).book
 
 abbrev content_6 : Book
-content_6 = (order content_5 alfa (codes "A-2") beta 60 None).book
+content_6 = (order content_5 alfa (says (codes "A-2") beta 60 None)).book
 
 abbrev content_7 : Book
-content_7 = (order content_6 alfa (codes "A-2") beta 60 (Some tuesday)).book
+content_7 = (order content_6 alfa (says (codes "A-2") beta 60 (Some tuesday))).book
 
 abbrev due_date_is_content_commands : List Command
 due_date_is_content_commands =
@@ -431,19 +431,19 @@ due_date_is_content_comes = (
 -- ---- due date is a later weekday
 
 abbrev weekday_1 : Book
-weekday_1 = (order start alfa (codes "A-1") beta 60 (Some monday)).book
+weekday_1 = (order start alfa (says (codes "A-1") beta 60 (Some monday))).book
 
 abbrev weekday_2 : Book
-weekday_2 = (order weekday_1 alfa (codes "A-1") beta 60 (Some 20240302)).book
+weekday_2 = (order weekday_1 alfa (says (codes "A-1") beta 60 (Some 20240302))).book
 
 abbrev weekday_3 : Book
-weekday_3 = (order weekday_2 alfa (codes "A-1") beta 60 (Some saturday)).book
+weekday_3 = (order weekday_2 alfa (says (codes "A-1") beta 60 (Some saturday))).book
 
 abbrev weekday_4 : Book
-weekday_4 = (order weekday_3 alfa (codes "A-1") beta 60 (Some 20240310)).book
+weekday_4 = (order weekday_3 alfa (says (codes "A-1") beta 60 (Some 20240310))).book
 
 abbrev weekday_5 : Book
-weekday_5 = (order weekday_4 alfa (codes "A-1") beta 60 (Some 20240311)).book
+weekday_5 = (order weekday_4 alfa (says (codes "A-1") beta 60 (Some 20240311))).book
 
 abbrev due_date_is_a_later_weekday_commands : List Command
 due_date_is_a_later_weekday_commands =
@@ -469,22 +469,22 @@ due_date_is_a_later_weekday_comes = (
 -- ---- due date is judged last
 
 abbrev judged_1 : Book
-judged_1 = (order start zeta (codes "Z-1") beta 60 (Some monday)).book
+judged_1 = (order start zeta (says (codes "Z-1") beta 60 (Some monday))).book
 
 abbrev judged_2 : Book
-judged_2 = (order judged_1 alfa (codes "A-1") zeta 60 (Some monday)).book
+judged_2 = (order judged_1 alfa (says (codes "A-1") zeta 60 (Some monday))).book
 
 abbrev judged_3 : Book
-judged_3 = (order judged_2 alfa (codes "A-1") alfa 60 (Some saturday)).book
+judged_3 = (order judged_2 alfa (says (codes "A-1") alfa 60 (Some saturday))).book
 
 abbrev judged_4 : Book
 judged_4 = (cut_off judged_3 monday).book
 
 abbrev judged_5 : Book
-judged_5 = (order judged_4 alfa (codes "A-1") beta 60 (Some monday)).book
+judged_5 = (order judged_4 alfa (says (codes "A-1") beta 60 (Some monday))).book
 
 abbrev judged_6 : Book
-judged_6 = (order judged_5 alfa (codes "A-1") beta 60 (Some tuesday)).book
+judged_6 = (order judged_5 alfa (says (codes "A-1") beta 60 (Some tuesday))).book
 
 abbrev due_date_is_judged_last_commands : List Command
 due_date_is_judged_last_commands =
@@ -511,13 +511,13 @@ due_date_is_judged_last_comes = (
 -- ---- held orders are withdrawn
 
 abbrev withdrawn_1 : Book
-withdrawn_1 = (order start alfa (codes "A-1") beta 10 (Some tuesday)).book
+withdrawn_1 = (order start alfa (says (codes "A-1") beta 10 (Some tuesday))).book
 
 abbrev withdrawn_2 : Book
-withdrawn_2 = (order withdrawn_1 alfa (codes "A-2") beta 20 (Some tuesday)).book
+withdrawn_2 = (order withdrawn_1 alfa (says (codes "A-2") beta 20 (Some tuesday))).book
 
 abbrev withdrawn_3 : Book
-withdrawn_3 = (order withdrawn_2 alfa (codes "A-3") beta 30 (Some tuesday)).book
+withdrawn_3 = (order withdrawn_2 alfa (says (codes "A-3") beta 30 (Some tuesday))).book
 
 abbrev withdrawn_4 : Book
 withdrawn_4 = (withdraw withdrawn_3 alfa (codes "A-1")).book
@@ -607,10 +607,10 @@ held_orders_are_withdrawn_comes law = (
 -- ---- close leaves held orders
 
 abbrev close_1 : Book
-close_1 = (order start alfa (codes "A-1") beta 60 None).book
+close_1 = (order start alfa (says (codes "A-1") beta 60 None)).book
 
 abbrev close_2 : Book
-close_2 = (order close_1 alfa (codes "A-2") beta 60 (Some tuesday)).book
+close_2 = (order close_1 alfa (says (codes "A-2") beta 60 (Some tuesday))).book
 
 abbrev close_3 : Book
 close_3 = (cut_off close_2 monday).book
@@ -628,10 +628,10 @@ abbrev close_4 : Book
 close_4 = (close_day close_3 close_4_choice monday).book
 
 abbrev close_5 : Book
-close_5 = (order close_4 alfa (codes "A-1") beta 60 None).book
+close_5 = (order close_4 alfa (says (codes "A-1") beta 60 None)).book
 
 abbrev close_6 : Book
-close_6 = (order close_5 alfa (codes "A-2") beta 60 (Some tuesday)).book
+close_6 = (order close_5 alfa (says (codes "A-2") beta 60 (Some tuesday))).book
 
 abbrev close_leaves_held_orders_commands : List Command
 close_leaves_held_orders_commands =
@@ -675,7 +675,7 @@ abbrev idle_1 : Book
 idle_1 = (post start alfa (codes "P-1") (pos 60)).book
 
 abbrev idle_2 : Book
-idle_2 = (order idle_1 alfa (codes "A-1") beta 60 (Some tuesday)).book
+idle_2 = (order idle_1 alfa (says (codes "A-1") beta 60 (Some tuesday))).book
 
 abbrev idle_3 : Book
 idle_3 = (cut_off idle_2 monday).book
@@ -696,7 +696,7 @@ abbrev idle_5 : Book
 idle_5 = (open_day idle_4 tuesday false).book
 
 abbrev idle_6 : Book
-idle_6 = (order idle_5 alfa (codes "A-1") beta 60 (Some tuesday)).book
+idle_6 = (order idle_5 alfa (says (codes "A-1") beta 60 (Some tuesday))).book
 
 abbrev idle_7_choice : Choice
 idle_7_choice = everything idle_6
@@ -711,7 +711,7 @@ abbrev idle_7 : Book
 idle_7 = (resolve idle_6 idle_7_choice).book
 
 abbrev idle_8 : Book
-idle_8 = (order idle_7 alfa (codes "A-1") beta 60 (Some tuesday)).book
+idle_8 = (order idle_7 alfa (says (codes "A-1") beta 60 (Some tuesday))).book
 
 abbrev due_order_waits_to_be_resolved_commands : List Command
 due_order_waits_to_be_resolved_commands =

@@ -1,7 +1,9 @@
 -- Worked examples: three banks with no credit on Monday 2024-03-04.
-use Rattle.std.specs.Prelude.{◌≡◌, ℕ, ℤ, true, false, List, [], ◌∷◌, map, Some, None, replicate, codes}
+use Rattle.std.specs.Prelude.{◌≡◌, ℕ, ℤ, true, false, List, [], ◌∷◌, map, Option, Some, None, replicate}
+use Rattle.std.specs.Prelude.{codes}
 use Rattle.rtgs_book.specs.declared.command.Command.TheVariants.{Order}
 use Rattle.rtgs_book.specs.declared.book.Book.{Book}
+use Rattle.rtgs_book.specs.declared.new_order.NewOrder.{NewOrder}
 use Rattle.rtgs_book.specs.declared.order.Order.{Order as OrderRecord}
 use Rattle.rtgs_book.specs.declared.participant.Participant.{Participant}
 use Rattle.rtgs_book.specs.declared.phase.Phase.TheVariants.{Open, Closed}
@@ -57,12 +59,17 @@ start = record {
   day = record { date = Some monday; phase = Open; automatic = false };
 }
 
+-- what an order says, with this due date or none
+abbrev pub says : List ℕ → List ℕ → ℕ → Option ℕ → NewOrder
+says reference receiver amount due =
+    record { reference = reference; receiver = receiver; amount = amount; due = due }
+
 abbrev pub pays : List ℕ → List ℕ → ℕ → List ℕ → Command
-pays sender receiver amount reference = Order sender reference receiver amount None
+pays sender receiver amount reference = Order sender (says reference receiver amount None)
 
 -- such an order, due on this date
 abbrev pub pays_on : ℕ → List ℕ → List ℕ → ℕ → List ℕ → Command
-pays_on due sender receiver amount reference = Order sender reference receiver amount (Some due)
+pays_on due sender receiver amount reference = Order sender (says reference receiver amount (Some due))
 
 -- the book of the start, before the first day
 abbrev pub unopened : Book

@@ -7,15 +7,15 @@ ghost use Rattle.rtgs_http_bodies.specs.Statuses.{batch_status};
 
 use crate::replies::{ContentType, Reply};
 use http::StatusCode;
-use rtgs_book::Refusal;
-use rtgs_order_files::{BatchResult, OrderRow, write_results};
+use rtgs_book::{NewOrder, Refusal};
+use rtgs_order_files::{BatchResult, write_results};
 use std::alloc::{AllocError, Global};
 
 /// The reply with the result file of a batch. A batch that stopped has another status. The only error is want of
 /// memory.
 pub fn batch_reply(
     alloc: Global,
-    rows: &[OrderRow],
+    rows: &[NewOrder],
     batch: &BatchResult,
 ) -> Result<Reply, AllocError>
     ensures { IfOk result (λ reply. reply ≡

@@ -24,7 +24,7 @@ use Rattle.rtgs_http_requests.specs.Callers.{CodeOf, caller_under, known}
 use Rattle.rtgs_http_requests.specs.Contents.{FindsContent, OrderValues, HasOrder, HasNothing}
 use Rattle.rtgs_http_requests.specs.Exchange.{AsksFor, HasRegion, HasHead, HasRoute, HasCaller, HasBody}
 use Rattle.rtgs_http_requests.specs.Meaning.{Answer, AsksPlainly, AsksBatch, Means, MeansBank, SpellsDate}
-use Rattle.rtgs_http_requests.specs.Meaning.{SpellsDue, SpellsOrder, SpellsReference}
+use Rattle.rtgs_http_requests.specs.Meaning.{SpellsDue, SpellsOrder, SpellsReference, said_by}
 use Rattle.rtgs_http_requests.specs.Steps.{Then, Goes}
 use Rattle.rtgs_http_requests.specs.declared.admitted.Admitted.{Admitted}
 use Rattle.rtgs_http_requests.specs.declared.admitted.Admitted.TheVariants as admitted
@@ -61,7 +61,7 @@ order_own caller values asked x = by (truth (is_reference values.0)) (truth (is_
     by : IsReference values.0 ⊎ (¬ IsReference values.0) → IsCode values.1 ⊎ (¬ IsCode values.1)
         → IsAmount values.2 ⊎ (¬ IsAmount values.2) → IsOwn caller asked
     by (inl r) (inl t) (inl a) =
-        let order : Option ℕ → Asked = λ due. Submit (command.Order caller values.0 values.1 values.2 due) in
+        let order : Option ℕ → Asked = λ due. Submit (command.Order caller (said_by values due)) in
         let d = value_of (SpellsDue values.3) (λ due (answer : Answer). answer ≡ Ok (order due)) asked (x.due r t a) in
         same_own caller asked (order d.0) d.2 refl
     by (inl r) (inl t) (inr a) = let e = x.bad_amount r t a in let no : ⊥ = cc e in absurd no

@@ -13,7 +13,7 @@ use Rattle.rtgs_http_requests.specs.Bodies.{ReadsJson}
 use Rattle.rtgs_http_requests.specs.Contents.{FindsContent, OrderValues, HasOrder, HasPosting, HasCredit, HasDate}
 use Rattle.rtgs_http_requests.specs.Contents.{HasOpening, HasNothing}
 use Rattle.rtgs_http_requests.specs.Meaning.{Answer, SpellsReference, SpellsDate, SpellsDue, SpellsOrder}
-use Rattle.rtgs_http_requests.specs.Meaning.{IsPostingOf, SpellsCredit}
+use Rattle.rtgs_http_requests.specs.Meaning.{IsPostingOf, SpellsCredit, said_by}
 use Rattle.rtgs_http_requests.specs.declared.asked.Asked.TheVariants.{Submit}
 use Rattle.rtgs_http_requests.specs.declared.http_fault.HttpFault.{HttpFault}
 use Rattle.rtgs_http_requests.specs.declared.http_fault.HttpFault.TheVariants as fault
@@ -161,7 +161,7 @@ order_once laws caller values one other x y =
         → IsAmount values.2 ⊎ (¬ IsAmount values.2) → (one ≡ Err fault.OutOfMemory)
         ⊎ ((other ≡ Err fault.OutOfMemory) ⊎ (one ≡ other))
     by (inl r) (inl t) (inl a) =
-        let answer : Option ℕ → Answer = λ due. Ok (Submit (command.Order caller values.0 values.1 values.2 due)) in
+        let answer : Option ℕ → Answer = λ due. Ok (Submit (command.Order caller (said_by values due))) in
         then_determined (SpellsDue values.3) (λ due (outcome : Answer). outcome ≡ answer due) (due_once laws values.3)
         (equal_once answer) one other (x.due r t a) (y.due r t a)
     by (inl r) (inl t) (inr a) = equal_outcome _ one other (x.bad_amount r t a) (y.bad_amount r t a)

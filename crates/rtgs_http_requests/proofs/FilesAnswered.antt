@@ -10,7 +10,7 @@ use Rattle.rtgs_order_files.specs.declared.columns.Columns.{Columns}
 use Rattle.rtgs_order_files.specs.declared.batch_fault.BatchFault.{BatchFault}
 use Rattle.rtgs_order_files.specs.declared.batch_fault.BatchFault.TheVariants as batch
 use Rattle.rtgs_order_files.specs.declared.limits.TheConstants.{MOST_ROWS}
-use Rattle.rtgs_order_files.specs.declared.order_row.OrderRow.{OrderRow}
+use Rattle.rtgs_book.specs.declared.new_order.NewOrder.{NewOrder}
 use Rattle.rtgs_http_requests.specs.Meaning.{AsksBatch}
 use Rattle.rtgs_http_requests.specs.Steps.{HasAnswer}
 use Rattle.rtgs_http_requests.specs.declared.asked.Asked.TheVariants.{Batch}
@@ -18,29 +18,29 @@ use Rattle.rtgs_http_requests.specs.declared.http_fault.HttpFault.TheVariants as
 
 -- all records spell rows, and they are so many at most
 abbrev AllRows : Columns → ℕ → List CsvFields → Type 0
-AllRows columns n records = (rows : List OrderRow) × BeginWith columns rows [] records × (length rows ≤ n)
+AllRows columns n records = (rows : List NewOrder) × BeginWith columns rows [] records × (length rows ≤ n)
 
 -- one of the first so many is the first that spells none
 abbrev BadAmong : Columns → ℕ → List CsvFields → Type 0
-BadAmong columns n records = (rows : List OrderRow) × (bad : CsvFields) × (rest : List CsvFields)
+BadAmong columns n records = (rows : List NewOrder) × (bad : CsvFields) × (rest : List CsvFields)
     × BeginWith columns rows (bad ∷ rest) records × IsNoRow columns bad × (length rows < n)
 
 -- the first so many spell rows, and there are more
 abbrev MoreThan : Columns → ℕ → List CsvFields → Type 0
-MoreThan columns n records = (rows : List OrderRow) × (next : CsvFields) × (rest : List CsvFields)
+MoreThan columns n records = (rows : List NewOrder) × (next : CsvFields) × (rest : List CsvFields)
     × BeginWith columns rows (next ∷ rest) records × (length rows ≡ n)
 
 abbrev Judged : Columns → ℕ → List CsvFields → Type 0
 Judged columns n records = AllRows columns n records ⊎ (BadAmong columns n records ⊎ MoreThan columns n records)
 
 -- a row before the others
-begun : (columns : Columns) (row : OrderRow) (fields : CsvFields) (rows : List OrderRow) (rest records : List CsvFields)
+begun : (columns : Columns) (row : NewOrder) (fields : CsvFields) (rows : List NewOrder) (rest records : List CsvFields)
     → IsRow columns row → fields ≡ fields_of_row columns row
     → BeginWith columns rows rest records → BeginWith columns (row ∷ rows) rest (fields ∷ records)
 begun columns row fields rows rest records is e x =
     (ap (λ f. f ∷ records) e ∙ ap (λ r. fields_of_row columns row ∷ r) x.0, (is, x.1))
 
-grown : (columns : Columns) (n : ℕ) (row : OrderRow) (fields : CsvFields) (records : List CsvFields)
+grown : (columns : Columns) (n : ℕ) (row : NewOrder) (fields : CsvFields) (records : List CsvFields)
     → IsRow columns row → fields ≡ fields_of_row columns row
     → Judged columns n records → Judged columns (suc n) (fields ∷ records)
 grown columns n row fields records is e (inl x) =
@@ -58,7 +58,7 @@ judged columns (suc n) (fields ∷ rest) none =
     bad (λ row is e. judged columns n rest (λ x. none (grown columns n row fields rest is e x)))
 
 -- rows, in memory
-kept : Global → (rows : List OrderRow) → length rows ≤ MOST_ROWS → Vec OrderRow
+kept : Global → (rows : List NewOrder) → length rows ≤ MOST_ROWS → Vec NewOrder
 kept alloc rows few =
     record {
       ptr = null_ptr;
@@ -77,11 +77,11 @@ file_answered alloc caller body none = no_fault batch.BadHeader (λ e. cc) by_he
     no_fault : (bad : BatchFault) → bad ≢ batch.OutOfMemory → ¬ IsFaultOf body bad
     no_fault bad other is = let clash = none (Err (fault.Batch bad)) (is, other) in cc
 
-    no_file : (rows : List OrderRow) → length rows ≤ MOST_ROWS → ¬ IsOrderFile body rows
+    no_file : (rows : List NewOrder) → length rows ≤ MOST_ROWS → ¬ IsOrderFile body rows
     no_file rows few is = let clash = none (Ok (Batch caller (kept alloc rows few))) (refl, is) in cc
 
     all_rows : (columns : Columns) (under : List CsvFields) → HasUnderHeader body columns under
-        → (rows : List OrderRow) → BeginWith columns rows [] under → length rows ≤ MOST_ROWS → ⊥
+        → (rows : List NewOrder) → BeginWith columns rows [] under → length rows ≤ MOST_ROWS → ⊥
     all_rows columns under has [] x few = no_fault batch.BadCount (λ e. cc) (columns, under, has, inl x.0)
     all_rows columns under has (row ∷ rows) x few =
         no_file (row ∷ rows) few (columns, under, has, (x, omega arith, few))

@@ -6,7 +6,7 @@ use Rattle.rtgs_money.specs.Date.{IsBusinessDate, date_text}
 use Rattle.rtgs_order_files.specs.OrderFile.{IsOrderFile, IsFaultOf}
 use Rattle.rtgs_order_files.specs.declared.batch_fault.BatchFault.{BatchFault}
 use Rattle.rtgs_order_files.specs.declared.batch_fault.BatchFault.TheVariants.{OutOfMemory}
-use Rattle.rtgs_order_files.specs.declared.order_row.OrderRow.{OrderRow}
+use Rattle.rtgs_book.specs.declared.new_order.NewOrder.{NewOrder}
 use Rattle.rtgs_http_requests.specs.feeds.Region.{StartsWith, IsTooLong, IsOpen}
 use Rattle.rtgs_http_requests.specs.heads.Fields.{Fields, HasKey}
 use Rattle.rtgs_http_requests.specs.heads.Heads.{IsGoodHead}
@@ -14,9 +14,9 @@ use Rattle.rtgs_http_requests.specs.heads.Heads.{IsGoodHead}
 pub record LowerLaws : Type 0 where
   pub dates : (one other : ℕ) → IsBusinessDate one → IsBusinessDate other → date_text one ≡ date_text other
       → one ≡ other
-  pub rows : (bytes : List ℕ) (one other : List OrderRow) → IsOrderFile bytes one → IsOrderFile bytes other
+  pub rows : (bytes : List ℕ) (one other : List NewOrder) → IsOrderFile bytes one → IsOrderFile bytes other
       → one ≡ other
-  pub files : (bytes : List ℕ) (rows : List OrderRow) (fault : BatchFault)
+  pub files : (bytes : List ℕ) (rows : List NewOrder) (fault : BatchFault)
       → IsOrderFile bytes rows → IsFaultOf bytes fault → fault ≡ OutOfMemory
   pub faults : (bytes : List ℕ) (one other : BatchFault)
       → IsFaultOf bytes one → IsFaultOf bytes other → one ≢ OutOfMemory → other ≢ OutOfMemory → one ≡ other

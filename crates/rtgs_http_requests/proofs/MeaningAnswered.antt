@@ -24,7 +24,7 @@ use Rattle.rtgs_http_requests.specs.Contents.{FindsContent, OrderValues, HasOrde
 use Rattle.rtgs_http_requests.specs.Contents.{HasOpening, HasNothing}
 use Rattle.rtgs_http_requests.specs.Meaning.{AsksDay, AsksPlainly, Means, MeansBank, MeansOperator, SpellsReference}
 use Rattle.rtgs_http_requests.specs.Meaning.{Answer, SpellsDate, SpellsDue, SpellsOrder, IsPostingOf, SpellsCredit}
-use Rattle.rtgs_http_requests.specs.Meaning.{SpellsOpening}
+use Rattle.rtgs_http_requests.specs.Meaning.{SpellsOpening, said_by}
 use Rattle.rtgs_http_requests.specs.Steps.{Then, HasAnswer}
 use Rattle.rtgs_http_requests.specs.declared.admitted.Admitted.{Admitted}
 use Rattle.rtgs_http_requests.specs.declared.admitted.Admitted.TheVariants as admitted
@@ -96,7 +96,7 @@ order_answered caller values none = by (truth (is_reference values.0)) (truth (i
     by : IsReference values.0 ⊎ (¬ IsReference values.0) → IsCode values.1 ⊎ (¬ IsCode values.1)
         → IsAmount values.2 ⊎ (¬ IsAmount values.2) → ⊥
     by (inl r) (inl t) (inl a) =
-        let order : Option ℕ → Asked = λ due. Submit (command.Order caller values.0 values.1 values.2 due) in
+        let order : Option ℕ → Asked = λ due. Submit (command.Order caller (said_by values due)) in
         then_answered (SpellsDue values.3) (λ due (outcome : Answer). outcome ≡ Ok (order due)) (due_answered values.3)
         (λ due. value_answered (order due)) (λ answer is. none answer (record {
           due = λ _ _ _. is;

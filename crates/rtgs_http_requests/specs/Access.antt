@@ -15,7 +15,7 @@ use Rattle.rtgs_book.specs.declared.reading.Reading.TheVariants as reading
 
 -- The command is an order or a withdrawal of this sender.
 abbrev pub IsCommandOf : List ℕ → Command → Type 0
-IsCommandOf code (Order sender reference receiver amount due) = sender ≡ code
+IsCommandOf code (Order sender new_order) = sender ≡ code
 IsCommandOf code (Withdraw sender reference) = sender ≡ code
 IsCommandOf code (Add other name key) = ⊥
 IsCommandOf code (SetCredit other credit) = ⊥

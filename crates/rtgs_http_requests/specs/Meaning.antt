@@ -5,6 +5,7 @@ use Rattle.rtgs_money.specs.Date.{IsBusinessDate, date_text}
 use Rattle.rtgs_money.specs.Forms.{IsCode, IsReference}
 use Rattle.rtgs_money.specs.declared.lexical.Lexical.TheVariants.{BadCode, BadReference, BadAmount, BadDate}
 use Rattle.rtgs_book.specs.declared.command.Command.TheVariants as command
+use Rattle.rtgs_book.specs.declared.new_order.NewOrder.{NewOrder}
 use Rattle.rtgs_order_files.specs.OrderFile.{IsOrderFile, IsFaultOf}
 use Rattle.rtgs_order_files.specs.declared.batch_fault.BatchFault.TheVariants as batch
 use Rattle.rtgs_http_requests.specs.declared.heads.bank_route.BankRoute.{BankRoute}
@@ -48,10 +49,14 @@ abbrev pub SpellsDue : Option (List ℕ) → Result (Option ℕ) HttpFault → T
 SpellsDue None outcome = outcome ≡ Ok None
 SpellsDue (Some text) outcome = Then (SpellsDate text) (λ date given. given ≡ Ok (Some date)) outcome
 
+-- what the values say of an order, with this due date
+abbrev pub said_by : OrderValues → Option ℕ → NewOrder
+said_by values due = record { reference = values.0; receiver = values.1; amount = values.2; due = due }
+
 -- the order of a caller with these values, judged in this order
 pub record SpellsOrder (caller : List ℕ) (values : OrderValues) (answer : Answer) : Type 0 where
   pub due : IsReference values.0 → IsCode values.1 → IsAmount values.2 → Then (SpellsDue values.3)
-      (λ due given. given ≡ Ok (Submit (command.Order caller values.0 values.1 values.2 due))) answer
+      (λ due given. given ≡ Ok (Submit (command.Order caller (said_by values due)))) answer
   pub bad_reference : ¬ IsReference values.0 → answer ≡ Err (fault.Form BadReference)
   pub bad_code : IsReference values.0 → ¬ IsCode values.1 → answer ≡ Err (fault.Form BadCode)
   pub bad_amount : IsReference values.0 → IsCode values.1 → ¬ IsAmount values.2 → answer ≡ Err (fault.Form BadAmount)

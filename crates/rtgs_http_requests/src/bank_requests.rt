@@ -9,7 +9,7 @@ use crate::contents::{is_nothing, order_of};
 use crate::heads::BankRoute;
 use crate::http_fault::HttpFault;
 use crate::spelling::{spell_date, spell_due, spell_reference};
-use rtgs_book::{Command, Reading};
+use rtgs_book::{Command, NewOrder, Reading};
 use rtgs_money::{Amount, Code, Lexical, Reference};
 use rtgs_order_files::read_orders;
 use std::alloc::Global;
@@ -62,10 +62,12 @@ fn spell_order(
     let due = spell_due(due)?;
     Ok(Asked::Submit(Command::Order {
         sender: caller,
-        reference,
-        receiver,
-        amount,
-        due,
+        order: NewOrder {
+            reference,
+            receiver,
+            amount,
+            due,
+        },
     }))
 }
 

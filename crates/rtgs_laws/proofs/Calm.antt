@@ -20,7 +20,7 @@ use Rattle.rtgs_book.specs.Balance.{balance, floor, gain}
 use Rattle.rtgs_book.specs.Calm.{IsCalm}
 use Rattle.rtgs_book.specs.Choice.{Choice, is_chosen, chosen, balance_after, IsFeasible, IsGreatest}
 use Rattle.rtgs_book.specs.Commands.{add, set_credit, post, open_day, order, withdraw, resolve, cut_off, close_day}
-use Rattle.rtgs_book.specs.Commands.{with_participant, with_day, takes, takes_due, settles_at_once, new_order}
+use Rattle.rtgs_book.specs.Commands.{with_participant, with_day, takes, takes_due, settles_at_once, taken_order}
 use Rattle.rtgs_book.specs.IntSum.{int_sum_by}
 use Rattle.rtgs_book.specs.Lookup.{has_code, accounts, is_participant, credit_of, participant_of}
 use Rattle.rtgs_book.specs.Outcome.{OwnReply, Reply, Outcome, first_of, is_done}
@@ -207,8 +207,8 @@ own_quiet old new (Post code reference cents) reply s q =
     quiet_first old _ _ (record { reply = reply; book = new }) refl s q
 own_quiet old new (OpenDay date automatic) reply s q =
     quiet_first old _ _ (record { reply = reply; book = new }) refl s q
-own_quiet old new (PlaceOrder sender reference receiver amount due) reply s q = quiet_first old _ _
-    (record { reply = reply; book = new }) (taken_done old (new_order old sender reference receiver amount due) due) s q
+own_quiet old new (PlaceOrder sender new_order) reply s q = quiet_first old _ _
+    (record { reply = reply; book = new }) (taken_done old (taken_order old sender new_order) new_order.due) s q
 own_quiet old new (Withdraw sender reference) reply s q =
     quiet_first old _ _ (record { reply = reply; book = new }) refl s q
 own_quiet old new Resolve reply s q = quiet_first old _ _ (record { reply = reply; book = new })
@@ -346,8 +346,8 @@ module _ (laws : BookLaws) (beginnings : ChosenAreBeginnings) (rest : RestStaysQ
   own_calm old own (SetCredit code credit) sound calm s e = free_calm old own (SetCredit code credit) calm s e
   own_calm old own (Post code reference cents) sound calm s e = free_calm old own (Post code reference cents) calm s e
   own_calm old own (OpenDay date automatic) sound calm s e = free_calm old own (OpenDay date automatic) calm s e
-  own_calm old own (PlaceOrder sender reference receiver amount due) sound calm s e =
-      free_calm old own (PlaceOrder sender reference receiver amount due) calm s e
+  own_calm old own (PlaceOrder sender new_order) sound calm s e =
+      free_calm old own (PlaceOrder sender new_order) calm s e
   own_calm old own (Withdraw sender reference) sound calm s e = free_calm old own (Withdraw sender reference) calm s e
   own_calm old own Resolve sound calm s e =
       own_resolved_calm beginnings rest balances sounds old own.book own.reply sound s

@@ -5,6 +5,7 @@ pub mod Calm
 pub mod Insertions
 pub mod Lifting
 pub mod Lists
+pub mod NewOrders
 pub mod Outcomes
 pub mod Quiet
 pub mod Runs

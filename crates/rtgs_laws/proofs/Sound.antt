@@ -28,8 +28,8 @@ step_sound laws old new (Post code reference cents) reply h e =
     ends _ reply new e (sound_post laws old code reference cents h)
 step_sound laws old new (OpenDay date automatic) reply h e =
     ends _ reply new e (sound_open_day laws old date automatic h)
-step_sound laws old new (PlaceOrder sender reference receiver amount due) reply h e =
-    ends _ reply new e (sound_order laws old sender reference receiver amount due h)
+step_sound laws old new (PlaceOrder sender new_order) reply h e =
+    ends _ reply new e (sound_order laws old sender new_order h)
 step_sound laws old new (Withdraw sender reference) reply h e =
     ends _ reply new e (sound_withdraw laws old sender reference h)
 step_sound laws old new Resolve reply h e = ends _ reply new e.2 (sound_resolve laws old e.0 h e.1.feasible)

@@ -12,6 +12,7 @@ use Rattle.rtgs_money.specs.Date.{is_weekend}
 use Rattle.rtgs_book.specs.declared.limits.TheConstants.{LONGEST_QUEUE, LARGEST_NUMBER, LARGEST_TOTAL}
 use Rattle.rtgs_book.specs.declared.book.Book.{Book}
 use Rattle.rtgs_book.specs.declared.mark.Mark.{Mark}
+use Rattle.rtgs_book.specs.declared.new_order.NewOrder.{NewOrder}
 use Rattle.rtgs_book.specs.declared.order.Order.{Order}
 use Rattle.rtgs_book.specs.Books.{is_closed, is_queued, is_queued_state, is_waiting, is_waiting_state, is_settled}
 use Rattle.rtgs_book.specs.Books.{is_settled_state, has_due}
@@ -20,7 +21,7 @@ use Rattle.rtgs_book.specs.IntSum.{int_sum_by}
 use Rattle.rtgs_book.specs.Balance.{balance, floor, total}
 use Rattle.rtgs_book.specs.Queue.{waiting}
 use Rattle.rtgs_book.specs.Settle.{today}
-use Rattle.rtgs_book.specs.Commands.{first_state, is_later, is_due_too_early, is_due_on_a_weekend, new_order}
+use Rattle.rtgs_book.specs.Commands.{first_state, is_later, is_due_too_early, is_due_on_a_weekend, taken_order}
 use Rattle.rtgs_book.specs.Commands.{with_order}
 use Rattle.rtgs_book.specs.Soundness.{HasMark, FitsDue, NeverFall, has_parties, is_state_under, is_same_name}
 use Rattle.rtgs_book.specs.Soundness.{CountsItsOrders, IsSound}
@@ -93,60 +94,61 @@ new_date : (due : Option ℕ) (today : ℕ) → due ≡ None → unwrap_or due t
 new_date None today e = refl
 new_date (Some due) today e = absurd (true≢false (ap is_some e))
 
-module _ (book : Book) (sender reference receiver : List ℕ) (amount : ℕ) (due : Option ℕ) where
+module _ (book : Book) (sender : List ℕ) (new_order : NewOrder) where
   pub balance-with_order : (code : List ℕ)
-      → balance (with_order book (new_order book sender reference receiver amount due)) code ≡ balance book code
+      → balance (with_order book (taken_order book sender new_order)) code ≡ balance book code
   unfolding balance
   balance-with_order code = rw (
     filter-append is_settled book.orders
-        (new_order book sender reference receiver amount due ∷ []),
-    first_not_settled due,
+        (taken_order book sender new_order ∷ []),
+    first_not_settled new_order.due,
     append-nil,
   ) refl
 
   under-with_order : (mark : ℕ) → filter (λ (o : Order). is_state_under mark o.state)
-      (book.orders ++ new_order book sender reference receiver amount due ∷ [])
+      (book.orders ++ taken_order book sender new_order ∷ [])
       ≡ filter (λ (o : Order). is_state_under mark o.state) book.orders
   under-with_order mark = filter-append (λ (o : Order). is_state_under mark o.state) book.orders
-      (new_order book sender reference receiver amount due ∷ []) ∙ rw (first_not_under mark due) (append-nil _)
+      (taken_order book sender new_order ∷ []) ∙ rw (first_not_under mark new_order.due) (append-nil _)
 
   waiting-with_order : (code : List ℕ)
-      → waiting (with_order book (new_order book sender reference receiver amount due)) code
-      ≡ waiting book code ++ cond (bytes_eq sender code) (new_order book sender reference receiver amount due ∷ []) []
+      → waiting (with_order book (taken_order book sender new_order)) code
+      ≡ waiting book code ++ cond (bytes_eq sender code) (taken_order book sender new_order ∷ []) []
   unfolding waiting
   waiting-with_order code = filter-append (λ (o : Order). is_waiting o && bytes_eq o.sender code) book.orders
-      (new_order book sender reference receiver amount due ∷ []) ∙ rw (first_waits due) refl
+      (taken_order book sender new_order ∷ []) ∙ rw (first_waits new_order.due) refl
 
   short_still : length (waiting book sender) < LONGEST_QUEUE → (code : List ℕ)
       → length (waiting book code) ≤ LONGEST_QUEUE
-      → length (waiting (with_order book (new_order book sender reference receiver amount due)) code) ≤ LONGEST_QUEUE
+      → length (waiting (with_order book (taken_order book sender new_order)) code) ≤ LONGEST_QUEUE
   short_still room code short = rw (waiting-with_order code) (by (bytes_eq sender code) refl)
     where
       by : (b : Bool) → bytes_eq sender code ≡ b → length (waiting book code
-          ++ cond b (new_order book sender reference receiver amount due ∷ []) []) ≤ LONGEST_QUEUE
+          ++ cond b (taken_order book sender new_order ∷ []) []) ≤ LONGEST_QUEUE
       by true e =
           let same : sender ≡ code = (bytes_decides sender code).0 e in
           let here : length (waiting book code) < LONGEST_QUEUE =
           subst (λ c. length (waiting book c) < LONGEST_QUEUE) same room in
-          rw (length-append (waiting book code) (new_order book sender reference receiver amount due ∷ []))
+          rw (length-append (waiting book code) (taken_order book sender new_order ∷ []))
           (omega arith)
       by false e = rw (append-nil (waiting book code)) short
 
   pub few_with_order : length (waiting book sender) < LONGEST_QUEUE → FewWait book
-      → FewWait (with_order book (new_order book sender reference receiver amount due))
+      → FewWait (with_order book (taken_order book sender new_order))
   unfolding accounts
   few_with_order room h = all_weaker (λ code. length (waiting book code) ≤ LONGEST_QUEUE)
-      (λ code. length (waiting (with_order book (new_order book sender reference receiver amount due)) code)
+      (λ code. length (waiting (with_order book (taken_order book sender new_order)) code)
       ≤ LONGEST_QUEUE) (short_still room) (accounts book) h
 
   pub sound_with_order : IsSound book → length book.orders < LARGEST_NUMBER
-      → is_some (order_named book sender reference) ≡ false → has_parties book
-      (new_order book sender reference receiver amount due) ≡ true
-      → is_closed book.day.phase ≡ false → is_due_too_early book due ≡ false → is_due_on_a_weekend due ≡ false
-      → IsSoundButLength (with_order book (new_order book sender reference receiver amount due))
+      → is_some (order_named book sender new_order.reference) ≡ false → has_parties book
+      (taken_order book sender new_order) ≡ true
+      → is_closed book.day.phase ≡ false → is_due_too_early book new_order.due ≡ false
+      → is_due_on_a_weekend new_order.due ≡ false
+      → IsSoundButLength (with_order book (taken_order book sender new_order))
   unfolding accounts is_participant floor credit_of participant_of total order_named
   sound_with_order h room fresh parties not_closed early weekend =
-      let new : Order = new_order book sender reference receiver amount due in
+      let new : Order = taken_order book sender new_order in
       record {
         orders_numbered = numbered_after (λ (o : Order). o.number) book.orders new h.orders_numbered refl room;
         postings_numbered = h.postings_numbered;
@@ -154,13 +156,14 @@ module _ (book : Book) (sender reference receiver : List ℕ) (amount : ℕ) (du
         codes_rise = h.codes_rise;
         keys_distinct = h.keys_distinct;
         order_references = rw (map-append name book.orders (new ∷ []))
-            (distinct_push is_same_name (map name book.orders) (sender, reference) h.order_references
-            (all_map (λ (n : List ℕ × List ℕ). is_same_name n (sender, reference) ≡ false) name book.orders
+            (distinct_push is_same_name (map name book.orders) (sender, new_order.reference)
+            h.order_references
+            (all_map (λ (n : List ℕ × List ℕ). is_same_name n (sender, new_order.reference) ≡ false) name book.orders
             (find_none _ book.orders fresh)));
         posting_references = h.posting_references;
         parties = (all_push (λ o. has_parties book o ≡ true) book.orders new h.parties.0 parties, h.parties.1);
         marks = (
-          all_push _ book.orders new h.marks.0 (first_has_mark book.marks new.date due),
+          all_push _ book.orders new h.marks.0 (first_has_mark book.marks new.date new_order.due),
           all_weaker (CountsItsOrders book) (CountsItsOrders (with_order book new))
               (λ (m : Mark) c. record {
                 some = c.some;
@@ -173,18 +176,21 @@ module _ (book : Book) (sender reference receiver : List ℕ) (amount : ℕ) (du
           of_the_day = rw (filter-append is_queued book.orders (new ∷ []))
               (all_append (λ (o : Order). o.date ≡ today book) (filter is_queued book.orders)
               (filter is_queued (new ∷ [])) h.queues.of_the_day
-              (first_queued (λ (o : Order). o.date ≡ today book) new due refl (new_date due (today book))));
+              (first_queued (λ (o : Order). o.date ≡ today book) new new_order.due refl
+              (new_date new_order.due (today book))));
         };
         dates = record {
           dated = h.dates.dated;
           weekday = h.dates.weekday;
           mark_weekdays = h.dates.mark_weekdays;
           order_weekdays = rw (map-append (λ (o : Order). o.date) book.orders (new ∷ []))
-              (all_push (λ date. is_weekend date ≡ false) _ (unwrap_or due (today book)) h.dates.order_weekdays
-              (first_weekday (today book) due (h.dates.weekday (h.dates.dated not_closed)) weekend));
-          orders = plain_push (today book) book.orders new due refl (new_date due (today book)) h.dates.orders;
+              (all_push (λ date. is_weekend date ≡ false) _ (unwrap_or new_order.due (today book))
+              h.dates.order_weekdays
+              (first_weekday (today book) new_order.due (h.dates.weekday (h.dates.dated not_closed)) weekend));
+          orders = plain_push (today book) book.orders new new_order.due refl (new_date new_order.due (today book))
+              h.dates.orders;
           dues = all_push (λ (o : Order). FitsDue (today book) o.due o.date o.state) book.orders new h.dates.dues
-              (first_fits book due (h.dates.dated not_closed) early weekend);
+              (first_fits book new_order.due (h.dates.dated not_closed) early weekend);
           marks = h.dates.marks;
           postings = h.dates.postings;
         };

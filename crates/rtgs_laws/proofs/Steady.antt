@@ -11,6 +11,7 @@ use Rattle.rtgs_book.specs.declared.command.Command.TheVariants.{Withdraw, Resol
 use Rattle.rtgs_book.specs.declared.book.Book.{Book}
 use Rattle.rtgs_book.specs.declared.command.Command.{Command}
 use Rattle.rtgs_book.specs.declared.mark.Mark.{Mark}
+use Rattle.rtgs_book.specs.declared.new_order.NewOrder.{NewOrder}
 use Rattle.rtgs_book.specs.declared.order.Order.{Order}
 use Rattle.rtgs_book.specs.declared.participant.Participant.{Participant}
 use Rattle.rtgs_book.specs.declared.posting.Posting.{Posting}
@@ -23,7 +24,7 @@ use Rattle.rtgs_book.specs.Choice.{is_chosen, chosen}
 use Rattle.rtgs_book.specs.Settle.{altered, in_state, settle, mark_of, next_mark}
 use Rattle.rtgs_book.specs.Outcome.{OwnReply, Outcome, first_of}
 use Rattle.rtgs_book.specs.Commands.{is_before, add, with_participant, set_credit, with_credit, known_posting, post}
-use Rattle.rtgs_book.specs.Commands.{new_order, with_order, has_number, takes, takes_due, settles_at_once, order}
+use Rattle.rtgs_book.specs.Commands.{taken_order, with_order, has_number, takes, takes_due, settles_at_once, order}
 use Rattle.rtgs_book.specs.Commands.{is_waiting_order, is_due, entered, let_in}
 use Rattle.rtgs_book.specs.Commands.{number_of, with_state, withdraw, open_day, cut_off, resolve, close_day}
 use Rattle.rtgs_book.specs.Procedure.{Has}
@@ -33,6 +34,7 @@ use Rattle.rtgs_book.specs.Laws.{posted_by_itself, KeepsWhatIsFinal, CommandFits
 use Rattle.rtgs_book.specs.Ranges.{Fits}
 use Rattle.rtgs_laws.proofs.Batches.{marks_le}
 use Rattle.rtgs_laws.proofs.BookLaws.{AreQueued, AreUnsettled, TotalIsIssued}
+use Rattle.rtgs_laws.proofs.NewOrders.{with_due}
 use Rattle.rtgs_laws.proofs.Outcomes.{NoneHolds, first_of_cases}
 use Rattle.rtgs_laws.proofs.Settling.{settled_either}
 use Rattle.rtgs_laws.proofs.Sound.{KeepsSoundness}
@@ -147,11 +149,11 @@ module _ (old new : Book) (reply : OwnReply) where
   moves (OpenDay date automatic) e = by_outcome old new (OpenDay date automatic) reply _ e
       (issued_by old (open_day old date automatic).book
       (book_first_of (λ b. b.postings ≡ old.postings) old _ _ refl refl))
-  moves (PlaceOrder sender reference receiver amount due) e = by_outcome old new
-      (PlaceOrder sender reference receiver amount due) reply _ e
-      (issued_by old (order old sender reference receiver amount due).book
+  moves (PlaceOrder sender new_order) e = by_outcome old new
+      (PlaceOrder sender new_order) reply _ e
+      (issued_by old (order old sender new_order).book
       (book_first_of (λ b. b.postings ≡ old.postings) old _ _ refl
-      (takes_due_postings old (new_order old sender reference receiver amount due) due)))
+      (takes_due_postings old (taken_order old sender new_order) new_order.due)))
   moves (Withdraw sender reference) e = by_outcome old new (Withdraw sender reference) reply _ e
       (issued_by old (withdraw old sender reference).book (book_first_of (λ b. b.postings ≡ old.postings) old _ _ refl
       refl))
@@ -239,45 +241,46 @@ stands_through old mid new one rest = record {
 }
 
 -- the order that joins its queue is the only one with its number
-module _ (book : Book) (sender reference receiver : List ℕ) (amount : ℕ) (h : IsSound book) where
+module _ (book : Book) (sender : List ℕ) (new_order : NewOrder) (h : IsSound book) where
   one_new : AllByRecursion (λ o. has_number (length book.orders + 1) o ≡ true → is_queued o ≡ true)
-      (book.orders ++ new_order book sender reference receiver amount None ∷ [])
+      (book.orders ++ taken_order book sender (with_due new_order None) ∷ [])
   one_new = all_push (λ o. has_number (length book.orders + 1) o ≡ true → is_queued o ≡ true) book.orders
-      (new_order book sender reference receiver amount None)
+      (taken_order book sender (with_due new_order None))
       (all_weaker (λ o. has_number (length book.orders + 1) o ≡ false)
       (λ o. has_number (length book.orders + 1) o ≡ true → is_queued o ≡ true)
       (λ o none e. absurd (true≢false (sym e ∙ none))) book.orders
-      (old_numbers book sender reference receiver amount h)) (λ _. refl)
+      (old_numbers book sender new_order h)) (λ _. refl)
 
   joined_stands : (due : Option ℕ)
-      → KeepsWhatIsFinal book (with_order book (new_order book sender reference receiver amount due))
+      → KeepsWhatIsFinal book (with_order book (taken_order book sender (with_due new_order due)))
   joined_stands due =
-      let new = new_order book sender reference receiver amount due in
+      let new = taken_order book sender (with_due new_order due) in
       stands_grown book (with_order book new) refl (new ∷ []) refl
 
   takes_stands : (due : Option ℕ)
-      → KeepsWhatIsFinal book (takes_due book (new_order book sender reference receiver amount due) due).book
+      → KeepsWhatIsFinal book (takes_due book (taken_order book sender (with_due new_order due)) due).book
   unfolding takes
   takes_stands None =
-      let new = new_order book sender reference receiver amount None in
-      choose_book (KeepsWhatIsFinal book) (settles_at_once book sender amount) _ _
+      let new = taken_order book sender (with_due new_order None) in
+      choose_book (KeepsWhatIsFinal book) (settles_at_once book sender new_order.amount) _ _
       (stands_through book (with_order book new) (settle (with_order book new) (has_number (length book.orders + 1)))
       (joined_stands None) (stands_settle (with_order book new) (has_number (length book.orders + 1)) one_new))
       (joined_stands None)
   takes_stands (Some due) = joined_stands (Some due)
 
-  withdraw_stands : KeepsWhatIsFinal book (withdraw book sender reference).book
-  unfolding withdraw with_state order_named
-  withdraw_stands = sound_first (KeepsWhatIsFinal book) book _ _ (stands_same book book refl refl)
-      (λ (_, (_, (_, (waits, _)))). by (order_named book sender reference) refl (from_not _ waits))
-    where
-      by : (found : Option Order) → order_named book sender reference ≡ found → is_waiting_order found ≡ true
-          → KeepsWhatIsFinal book (with_state book (has_number (number_of found)) Withdrawn)
-      by None e q = absurd (true≢false (sym q))
-      by (Some o) e q = stands_altered book _ (has_number o.number) (in_state Withdrawn)
-          (found_by_number (λ other. is_settled other ≡ false) (is_order_named sender reference) 1 book.orders o
-          (h.orders_numbered.0 ∙ ap (range_with_len 1) (length-map book.orders (λ (o : Order). o.number))) e
-          (waiting_not_settled o.state q)) [] (sym (append-nil book.marks)) refl
+withdraw_stands : (book : Book) (sender reference : List ℕ) → IsSound book
+    → KeepsWhatIsFinal book (withdraw book sender reference).book
+unfolding withdraw with_state order_named
+withdraw_stands book sender reference h = sound_first (KeepsWhatIsFinal book) book _ _ (stands_same book book refl refl)
+    (λ (_, (_, (_, (waits, _)))). by (order_named book sender reference) refl (from_not _ waits))
+  where
+    by : (found : Option Order) → order_named book sender reference ≡ found → is_waiting_order found ≡ true
+        → KeepsWhatIsFinal book (with_state book (has_number (number_of found)) Withdrawn)
+    by None e q = absurd (true≢false (sym q))
+    by (Some o) e q = stands_altered book _ (has_number o.number) (in_state Withdrawn)
+        (found_by_number (λ other. is_settled other ≡ false) (is_order_named sender reference) 1 book.orders o
+        (h.orders_numbered.0 ∙ ap (range_with_len 1) (length-map book.orders (λ (o : Order). o.number))) e
+        (waiting_not_settled o.state q)) [] (sym (append-nil book.marks)) refl
 
 stays : (old new : Book) (reply : OwnReply) (outcome : Outcome) → record { reply = reply; book = new } ≡ outcome
     → KeepsWhatIsFinal old outcome.book → KeepsWhatIsFinal old new
@@ -295,11 +298,11 @@ step_stands old new (Post code reference cents) reply h e = stays old new reply 
 step_stands old new (OpenDay date automatic) reply h e = stays old new reply _ e
     (book_first_of (KeepsWhatIsFinal old) old _ _ (stands_same old old refl refl)
     (stands_altered old _ (is_due date) (entered date) (due_unsettled old date) [] (sym (append-nil old.marks)) refl))
-step_stands old new (PlaceOrder sender reference receiver amount due) reply h e =
+step_stands old new (PlaceOrder sender new_order) reply h e =
     stays old new reply _ e (book_first_of (KeepsWhatIsFinal old) old _ _ (stands_same old old refl refl)
-    (takes_stands old sender reference receiver amount h due))
+    (takes_stands old sender new_order h new_order.due))
 step_stands old new (Withdraw sender reference) reply h e = stays old new reply _ e
-    (withdraw_stands old sender reference [] 0 h)
+    (withdraw_stands old sender reference h)
 step_stands old new Resolve reply h e = stays old new reply _ e.2
     (book_first_of (KeepsWhatIsFinal old) old _ _ (stands_same old old refl refl)
     (choose_book (KeepsWhatIsFinal old) (is_empty (chosen old e.0)) _ _ (stands_same old old refl refl)
@@ -401,9 +404,9 @@ step_fits old new (Post code reference cents) reply fits h e =
 step_fits old new (OpenDay date automatic) reply fits h e = fitting new reply _ e
     (book_first_of Fits old _ _ h (fits_as old _ refl refl (fits_orders old (is_due date) (entered date) (λ o. refl)
     h.orders) h))
-step_fits old new (PlaceOrder sender reference receiver amount due) reply fits h e =
+step_fits old new (PlaceOrder sender new_order) reply fits h e =
     fitting new reply _ e (book_first_of Fits old _ _ h (fits_takes_due old
-    (new_order old sender reference receiver amount due) due fits h))
+    (taken_order old sender new_order) new_order.due fits h))
 step_fits old new (Withdraw sender reference) reply fits h e =
     fitting new reply _ e (book_first_of Fits old _ _ h (fits_as old _ refl refl
     (fits_orders old (has_number (number_of (order_named old sender reference))) (in_state Withdrawn) (λ o. refl)

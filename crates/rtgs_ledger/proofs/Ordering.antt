@@ -1,6 +1,6 @@
 -- What an order comes to, test by test, and its change.
 use Rattle.std.proofs.Common.{◌≡◌, ℕ, ◌+◌, ◌≤◌, ℤ, pos, ◌+ℤ◌, ◌-ℤ◌, Bool, true, false, not, ◌&&◌, if◌then◌else◌, nat_le}
-use Rattle.std.proofs.Common.{◌==◌, List, [], ◌∷◌, ◌++◌, map, filter, length, find, Option, unwrap_or, is_some, is_none}
+use Rattle.std.proofs.Common.{List, [], ◌∷◌, ◌++◌, map, filter, length, find, Option, unwrap_or, is_some, is_none}
 use Rattle.std.proofs.Common.{IsTrue}
 use Rattle.std.proofs.Common.{int_le, Ok, Err, Some, None, refl, sym, ap, subst, ◌∙◌, true≢false, length-append}
 use Rattle.std.proofs.Common.{zero-add, arith, inl, inr}
@@ -23,6 +23,7 @@ use Rattle.rtgs_book.specs.Session.{is_judged}
 use Rattle.rtgs_book.specs.declared.change.RowChange.{RowChange}
 use Rattle.rtgs_book.specs.declared.change.RowChange.TheVariants.{AddOrder, AddMark, SetBalance}
 use Rattle.rtgs_book.specs.declared.book.Book.{Book}
+use Rattle.rtgs_book.specs.declared.new_order.NewOrder.{NewOrder}
 use Rattle.rtgs_book.specs.declared.order.Order.{Order}
 use Rattle.rtgs_book.specs.declared.order_state.OrderState.{OrderState}
 use Rattle.rtgs_book.specs.declared.order_state.OrderState.TheVariants.{Queued, Held as HeldState, Settled, Withdrawn}
@@ -34,9 +35,9 @@ use Rattle.rtgs_book.specs.Books.{is_open, is_closed, is_queued, is_queued_state
 use Rattle.rtgs_book.specs.Books.{is_settled_state}
 use Rattle.rtgs_book.specs.Books.{is_empty}
 use Rattle.rtgs_book.specs.Changes.{Leads, balance_set, or_else}
-use Rattle.rtgs_book.specs.Commands.{order, takes, takes_due, new_order, first_state, with_order, settles_at_once}
-use Rattle.rtgs_book.specs.Commands.{settles_now}
-use Rattle.rtgs_book.specs.Commands.{has_number, is_same_due, is_due_too_early, is_due_on_a_weekend}
+use Rattle.rtgs_book.specs.Commands.{order, takes, takes_due, taken_order, order_numbered, first_state, with_order}
+use Rattle.rtgs_book.specs.Commands.{as_sent, says_the_same, settles_at_once, settles_now}
+use Rattle.rtgs_book.specs.Commands.{has_number, is_due_too_early, is_due_on_a_weekend}
 use Rattle.rtgs_book.specs.Lookup.{accounts, is_participant, order_named}
 use Rattle.rtgs_book.specs.Outcome.{first_of}
 use Rattle.rtgs_book.specs.Queue.{queue, waiting, queued_numbers}
@@ -65,84 +66,84 @@ pub too_early_is : (book : Book) (due : Option ℕ) (b : Bool) → is_too_early 
 too_early_is book None b e = e
 too_early_is book (Some due) b e = e
 
-module _ (book : Book) (sender reference receiver : List ℕ) (amount : ℕ) (due : Option ℕ) where
-  pub unknown : is_participant book sender ≡ false → OwnStep book (command.Order sender reference receiver amount due)
+module _ (book : Book) (sender : List ℕ) (new_order : NewOrder) where
+  pub unknown : is_participant book sender ≡ false → OwnStep book (command.Order sender new_order)
       (Err UnknownParticipant) book
   unfolding order first_of
   unknown e = rw e refl
 
-  pub repeats : is_participant book sender ≡ true → (o : Order) → order_named book sender reference ≡ Some o
-      → (bytes_eq o.receiver receiver && (o.amount == amount) && is_same_due o.due due) ≡ true
-      → OwnStep book (command.Order sender reference receiver amount due) (Ok (answer.Repeated (known.Order o.number
+  pub repeats : is_participant book sender ≡ true → (o : Order) → order_named book sender new_order.reference ≡ Some o
+      → says_the_same (as_sent o) new_order ≡ true
+      → OwnStep book (command.Order sender new_order) (Ok (answer.Repeated (known.Order o.number
       o.state)))
       book
   unfolding order first_of
   repeats e o found same = rw (e, found, same) refl
 
-  pub reference_used : is_participant book sender ≡ true → (o : Order) → order_named book sender reference ≡ Some o
-      → (bytes_eq o.receiver receiver && (o.amount == amount) && is_same_due o.due due) ≡ false
-      → OwnStep book (command.Order sender reference receiver amount due) (Err ReferenceUsed) book
+  pub reference_used : is_participant book sender ≡ true → (o : Order)
+      → order_named book sender new_order.reference ≡ Some o
+      → says_the_same (as_sent o) new_order ≡ false
+      → OwnStep book (command.Order sender new_order) (Err ReferenceUsed) book
   unfolding order first_of
   reference_used e o found other = rw (e, found, other) refl
 
-  module _ (known : is_participant book sender ≡ true) (unused : order_named book sender reference ≡ None) where
-    pub not_open : is_open book.day.phase ≡ false → OwnStep book (command.Order sender reference receiver amount due)
+  module _ (known : is_participant book sender ≡ true)
+      (unused : order_named book sender new_order.reference ≡ None) where
+    pub not_open : is_open book.day.phase ≡ false → OwnStep book (command.Order sender new_order)
         (Err NotOpen) book
     unfolding order first_of
     not_open shut = rw (known, unused, shut) refl
 
     module _ (opened : is_open book.day.phase ≡ true) where
-      pub unknown_receiver : is_participant book receiver ≡ false
-          → OwnStep book (command.Order sender reference receiver amount due) (Err UnknownReceiver) book
+      pub unknown_receiver : is_participant book new_order.receiver ≡ false
+          → OwnStep book (command.Order sender new_order) (Err UnknownReceiver) book
       unfolding order first_of
       unknown_receiver e = rw (known, unused, opened, e) refl
 
-      module _ (there : is_participant book receiver ≡ true) where
-        pub same_party : bytes_eq sender receiver ≡ true → OwnStep book (command.Order sender reference receiver amount
-            due)
+      module _ (there : is_participant book new_order.receiver ≡ true) where
+        pub same_party : bytes_eq sender new_order.receiver ≡ true → OwnStep book (command.Order sender new_order)
             (Err SameParty) book
         unfolding order first_of
         same_party same = rw (known, unused, opened, there, same) refl
 
-        module _ (apart : bytes_eq sender receiver ≡ false) where
-          pub due_refused : (refusal : Refusal) → IsDueRefused book.day.date due refusal
-              → OwnStep book (command.Order sender reference receiver amount due) (Err refusal) book
+        module _ (apart : bytes_eq sender new_order.receiver ≡ false) where
+          pub due_refused : (refusal : Refusal) → IsDueRefused book.day.date new_order.due refusal
+              → OwnStep book (command.Order sender new_order) (Err refusal) book
               × (is_judged (Err refusal) ≡ true)
           unfolding order first_of
           due_refused refusal (inl early) =
-              let is_early = too_early_is book due true early.1 in
+              let is_early = too_early_is book new_order.due true early.1 in
               (rw (early.0, known, unused, opened, there, apart, is_early) refl, rw early.0 refl)
           due_refused refusal (inr free) =
-              let later = too_early_is book due false free.1 in
+              let later = too_early_is book new_order.due false free.1 in
               (rw (free.0, known, unused, opened, there, apart, later, free.2) refl, rw free.0 refl)
 
-          module _ (later : is_due_too_early book due ≡ false) where
-            module _ (working : is_due_on_a_weekend due ≡ false) where
+          module _ (later : is_due_too_early book new_order.due ≡ false) where
+            module _ (working : is_due_on_a_weekend new_order.due ≡ false) where
               pub numbers_used_up : nat_le LARGEST_NUMBER (length book.orders) ≡ true
-                  → OwnStep book (command.Order sender reference receiver amount due) (Err NumbersUsedUp) book
+                  → OwnStep book (command.Order sender new_order) (Err NumbersUsedUp) book
               unfolding order first_of
               numbers_used_up many = rw (known, unused, opened, there, apart, later, working, many) refl
 
               pub queue_full : nat_le LARGEST_NUMBER (length book.orders) ≡ false
-                  → settles_now book sender amount due ≡ false
+                  → settles_now book sender new_order ≡ false
                   → nat_le LONGEST_QUEUE (length (waiting book sender)) ≡ true
-                  → OwnStep book (command.Order sender reference receiver amount due) (Err QueueFull) book
+                  → OwnStep book (command.Order sender new_order) (Err QueueFull) book
               unfolding order first_of
               queue_full few waits full =
                   rw (known, unused, opened, there, apart, later, working, few, waits, full) refl
 
               taken : nat_le LARGEST_NUMBER (length book.orders) ≡ false
-                  → (not (settles_now book sender amount due)
+                  → (not (settles_now book sender new_order)
                   && nat_le LONGEST_QUEUE (length (waiting book sender))) ≡ false
-                  → order book sender reference receiver amount due ≡ takes_due book
-                  (new_order book sender reference receiver amount due) due
+                  → order book sender new_order ≡ takes_due book (taken_order book sender new_order) new_order.due
               unfolding order first_of
               taken few room = rw (known, unused, opened, there, apart, later, working, few, room) refl
 
-              pub is_taken : IsAmount amount → nat_le LARGEST_NUMBER (length book.orders) ≡ false
-                  → (not (settles_now book sender amount due)
+              pub is_taken : IsAmount new_order.amount → nat_le LARGEST_NUMBER (length book.orders) ≡ false
+                  → (not (settles_now book sender new_order)
                   && nat_le LONGEST_QUEUE (length (waiting book sender))) ≡ false
-                  → IsTaken book (new_order book sender reference receiver amount due)
+                  → IsTaken book (taken_order book sender new_order)
               is_taken fits few room = record {
                 next = refl;
                 unused = unused;
@@ -153,7 +154,7 @@ module _ (book : Book) (sender reference receiver : List ℕ) (amount : ℕ) (du
 
 module _ (book : Book) (o : Order) (taken : IsTaken book o) where
   taken_at : (settles : Bool) → settles_at_once book o.sender o.amount ≡ settles → o.due ≡ None
-      → WouldAct book (command.Order o.sender o.reference o.receiver o.amount o.due)
+      → WouldAct book (command.Order o.sender (as_sent o))
   unfolding takes
   taken_at true settles direct = (
     answer.Settled o.number (next_mark book),
@@ -169,11 +170,11 @@ module _ (book : Book) (o : Order) (taken : IsTaken book o) where
   )
 
   -- an order that is taken would act
-  pub taken_acts : WouldAct book (command.Order o.sender o.reference o.receiver o.amount o.due)
+  pub taken_acts : WouldAct book (command.Order o.sender (as_sent o))
   taken_acts = by o.due refl
     where
       by : (due : Option ℕ) → o.due ≡ due
-          → WouldAct book (command.Order o.sender o.reference o.receiver o.amount o.due)
+          → WouldAct book (command.Order o.sender (as_sent o))
       by None direct = taken_at (settles_at_once book o.sender o.amount) refl direct
       by (Some due) later = (
         answer.Held o.number due,
@@ -289,40 +290,24 @@ module _ (r : Whole) (kept : IsKept (held_of r)) where
       ) refl
 
   -- the next order, where no test but the last refuses it
-  pub taken_now : (sender reference receiver : List ℕ) (amount date : ℕ) (due : Option ℕ) (sending receiving : Account)
-      → find (is_of sender) r.accounts.accounts ≡ Some sending → order_named (book_of r) sender reference ≡ None
+  pub taken_now : (sender : List ℕ) (new_order : NewOrder) (date : ℕ) (sending receiving : Account)
+      → find (is_of sender) r.accounts.accounts ≡ Some sending
+      → order_named (book_of r) sender new_order.reference ≡ None
       → (if is_open r.day.phase then r.day.date else None) ≡ Some date
-      → find (is_of receiver) r.accounts.accounts ≡ Some receiving → bytes_eq sender receiver ≡ false
-      → is_due_too_early (book_of r) due ≡ false → is_due_on_a_weekend due ≡ false
-      → nat_le LARGEST_NUMBER (length r.orders) ≡ false → IsAmount amount
-      → (not (settles_now (book_of r) sender amount due)
+      → find (is_of new_order.receiver) r.accounts.accounts ≡ Some receiving
+      → bytes_eq sender new_order.receiver ≡ false
+      → is_due_too_early (book_of r) new_order.due ≡ false → is_due_on_a_weekend new_order.due ≡ false
+      → nat_le LARGEST_NUMBER (length r.orders) ≡ false → IsAmount new_order.amount
+      → (not (settles_now (book_of r) sender new_order)
       && nat_le LONGEST_QUEUE (length (waiting (book_of r) sender))) ≡ false
-      → IsTaken (book_of r) (record {
-        number = length r.orders + 1;
-        sender = sender;
-        reference = reference;
-        receiver = receiver;
-        amount = amount;
-        date = unwrap_or due date;
-        due = due;
-        state = first_state due;
-      })
-  taken_now sender reference receiver amount date due sending receiving from unused day to apart later working few fits
-      room =
+      → IsTaken (book_of r) (order_numbered (length r.orders + 1) sender new_order (unwrap_or new_order.due date))
+  taken_now sender new_order date sending receiving from unused day to apart later working few fits room =
       let today_is : today (book_of r) ≡ date = ap (λ (d : Option ℕ). unwrap_or d 0)
       (is_day (is_open r.day.phase) r.day.date date day) in
-      subst (IsTaken (book_of r)) (λ i. record {
-        number = length r.orders + 1;
-        sender = sender;
-        reference = reference;
-        receiver = receiver;
-        amount = amount;
-        date = unwrap_or due (today_is i);
-        due = due;
-        state = first_state due;
-      })
-      (is_taken (book_of r) sender reference receiver amount due (is_known r kept sender sending from) unused
-      (open_now date day) (is_known r kept receiver receiving to) apart later working fits few room)
+      subst (IsTaken (book_of r))
+      (λ i. order_numbered (length r.orders + 1) sender new_order (unwrap_or new_order.due (today_is i)))
+      (is_taken (book_of r) sender new_order (is_known r kept sender sending from) unused
+      (open_now date day) (is_known r kept new_order.receiver receiving to) apart later working fits few room)
 
 -- ---- the book after it
 
@@ -364,7 +349,7 @@ settle_new book numbered o next =
       eq_self o.number,
     ) refl
 
-pub one_mark : (book : Book) (o : Order) → o ≡ new_order book o.sender o.reference o.receiver o.amount o.due
+pub one_mark : (book : Book) (o : Order) → o ≡ taken_order book o.sender (as_sent o)
     → o.due ≡ None
     → mark_of book (o ∷ []) ≡ record { number = length book.marks + 1; date = o.date; count = 1; value = pos o.amount }
 unfolding mark_of
@@ -395,21 +380,21 @@ module _ (held : Held) (kept : IsKept held) (o : Order) (taken : IsTaken held.co
       (length-append (filter (λ x. is_queued x && bytes_eq x.sender o.sender) held.content.orders) (o ∷ []))
 
   step_queued : o.due ≡ None → settles_at_once held.content o.sender o.amount ≡ false
-      → OwnStep held.content (command.Order o.sender o.reference o.receiver o.amount o.due)
+      → OwnStep held.content (command.Order o.sender (as_sent o))
       (Ok (answer.Queued o.number (length (queue held.content o.sender) + 1))) (with_order held.content o)
   unfolding takes
   step_queued direct waits = sym (taken.taken ∙ ap (takes_due held.content o) direct
       ∙ rw (waits, queued_place direct) refl)
 
   step_settled : o.due ≡ None → settles_at_once held.content o.sender o.amount ≡ true
-      → OwnStep held.content (command.Order o.sender o.reference o.receiver o.amount o.due)
+      → OwnStep held.content (command.Order o.sender (as_sent o))
       (Ok (answer.Settled o.number (next_mark held.content))) (with_settled held.content o)
   unfolding takes
   step_settled direct settles = sym (taken.taken ∙ ap (takes_due held.content o) direct
       ∙ rw (settles, settle_new held.content (let s = kept.sound in s.orders_numbered) o number) refl)
 
   step_held : (due : ℕ) → o.due ≡ Some due
-      → OwnStep held.content (command.Order o.sender o.reference o.receiver o.amount o.due)
+      → OwnStep held.content (command.Order o.sender (as_sent o))
       (Ok (answer.Held o.number due)) (with_order held.content o)
   step_held due later = sym (taken.taken ∙ ap (takes_due held.content o) later)
 
@@ -428,31 +413,32 @@ module _ (held : Held) (kept : IsKept held) (o : Order) (taken : IsTaken held.co
   }
 
   pub prepared_held : (due : ℕ) → o.due ≡ Some due
-      → IsPrepared held (command.Order o.sender o.reference o.receiver o.amount o.due) (answer.Held o.number due)
+      → IsPrepared held (command.Order o.sender (as_sent o)) (answer.Held o.number due)
       (AddOrder o ∷ [])
   prepared_held due later =
-      prepared_done held (command.Order o.sender o.reference o.receiver o.amount o.due) (answer.Held o.number due)
+      prepared_done held (command.Order o.sender (as_sent o)) (answer.Held o.number due)
       (AddOrder o ∷ []) (with_order held.content o) taken.fits (step_held due later) joins (tt, tt)
       (all_same (balance held.content) (balance (with_order held.content o)) same_balance held.accounts kept.balanced)
       (λ k e. absurd (cc)) (λ e. absurd (cc))
 
   pub prepared_queued : o.due ≡ None → settles_at_once held.content o.sender o.amount ≡ false
-      → IsPrepared held (command.Order o.sender o.reference o.receiver o.amount o.due)
+      → IsPrepared held (command.Order o.sender (as_sent o))
       (answer.Queued o.number (length (queue held.content o.sender) + 1)) (AddOrder o ∷ [])
   prepared_queued direct waits =
-      prepared_done held (command.Order o.sender o.reference o.receiver o.amount o.due)
+      prepared_done held (command.Order o.sender (as_sent o))
       (answer.Queued o.number (length (queue held.content o.sender) + 1)) (AddOrder o ∷ [])
       (with_order held.content o) taken.fits (step_queued direct waits) joins (tt, tt)
       (all_same (balance held.content) (balance (with_order held.content o)) same_balance held.accounts kept.balanced)
       (λ k e. absurd (cc)) (λ e. absurd (cc))
 
-  pub prepared_waiting : settles_now held.content o.sender o.amount o.due ≡ false
-      → IsPrepared held (command.Order o.sender o.reference o.receiver o.amount o.due)
+  pub prepared_waiting : settles_now held.content o.sender (as_sent o) ≡ false
+      → IsPrepared held (command.Order o.sender (as_sent o))
       (waiting_answer o.number (length (queue held.content o.sender) + 1) o.due) (AddOrder o ∷ [])
   prepared_waiting waits = by o.due refl waits
     where
-      by : (due : Option ℕ) → o.due ≡ due → settles_now held.content o.sender o.amount due ≡ false
-          → IsPrepared held (command.Order o.sender o.reference o.receiver o.amount o.due)
+      by : (due : Option ℕ) → o.due ≡ due
+          → settles_now held.content o.sender (record (as_sent o) { due = due }) ≡ false
+          → IsPrepared held (command.Order o.sender (as_sent o))
           (waiting_answer o.number (length (queue held.content o.sender) + 1) due) (AddOrder o ∷ [])
       by None direct waits = prepared_queued direct waits
       by (Some due) later waits = prepared_held due later
@@ -533,14 +519,14 @@ module _ (held : Held) (kept : IsKept held) (o : Order) (taken : IsTaken held.co
         by false false e f = rw (← balance_of_other c e f, int_eq_self (balance held.content c)) refl
 
     pub prepared_settled : o.due ≡ None → settles_at_once held.content o.sender o.amount ≡ true
-        → IsPrepared held (command.Order o.sender o.reference o.receiver o.amount o.due)
+        → IsPrepared held (command.Order o.sender (as_sent o))
         (answer.Settled o.number (next_mark held.content)) rows
     prepared_settled direct settles =
         let leads : Leads held.content rows (with_settled held.content o) = record {
           book = refl;
           balances = all_of _ (sets (let f = taken.fits in f.0)) (accounts (with_settled held.content o));
         } in
-        prepared_done held (command.Order o.sender o.reference o.receiver o.amount o.due)
+        prepared_done held (command.Order o.sender (as_sent o))
         (answer.Settled o.number (next_mark held.content)) rows (with_settled held.content o) taken.fits
         (step_settled direct settles) leads (tt, (tt, (tt, (tt, tt))))
         (all_same (moved o.receiver more (moved o.sender less (balance held.content)))
@@ -553,59 +539,23 @@ module _ (held : Held) (kept : IsKept held) (o : Order) (taken : IsTaken held.co
 
 -- so it is in the book whose core the records are
 pub order_taken : (book : Book) (r : Records) (core : Core) (of : IsOf book r core)
-    (sender reference receiver : List ℕ) (amount date : ℕ) (due : Option ℕ) (sending receiving : Account) (o : Order)
-    → o ≡ record {
-      number = r.orders.next;
-      sender = sender;
-      reference = reference;
-      receiver = receiver;
-      amount = amount;
-      date = unwrap_or due date;
-      due = due;
-      state = first_state due;
-    }
-    → find (is_of sender) r.accounts.accounts ≡ Some sending → order_named (book_of (whole book r)) sender reference
-    ≡ None
+    (sender : List ℕ) (new_order : NewOrder) (date : ℕ) (sending receiving : Account) (o : Order)
+    → o ≡ order_numbered r.orders.next sender new_order (unwrap_or new_order.due date)
+    → find (is_of sender) r.accounts.accounts ≡ Some sending
+    → order_named (book_of (whole book r)) sender new_order.reference ≡ None
     → (if is_open r.day.phase then r.day.date else None) ≡ Some date
-    → find (is_of receiver) r.accounts.accounts ≡ Some receiving → bytes_eq sender receiver ≡ false
-    → is_due_too_early (book_of (whole book r)) due ≡ false → is_due_on_a_weekend due ≡ false
-    → nat_le LARGEST_NUMBER (length book.orders) ≡ false → IsAmount amount
-    → (not (settles_now (book_of (whole book r)) sender amount due)
+    → find (is_of new_order.receiver) r.accounts.accounts ≡ Some receiving
+    → bytes_eq sender new_order.receiver ≡ false
+    → is_due_too_early (book_of (whole book r)) new_order.due ≡ false → is_due_on_a_weekend new_order.due ≡ false
+    → nat_le LARGEST_NUMBER (length book.orders) ≡ false → IsAmount new_order.amount
+    → (not (settles_now (book_of (whole book r)) sender new_order)
     && nat_le LONGEST_QUEUE (length (waiting (book_of (whole book r)) sender))) ≡ false
     → IsTaken book o
-order_taken book r core of sender reference receiver amount date due sending receiving o is from unused day to apart
-    later
-    working few fits room =
-    let next : o ≡ record {
-      number = length book.orders + 1;
-      sender = sender;
-      reference = reference;
-      receiver = receiver;
-      amount = amount;
-      date = unwrap_or due date;
-      due = due;
-      state = first_state due;
-    } = is ∙ (λ i. record {
-      number = of.orders i;
-      sender = sender;
-      reference = reference;
-      receiver = receiver;
-      amount = amount;
-      date = unwrap_or due date;
-      due = due;
-      state = first_state due;
-    }) in
-    subst (IsTaken book) (sym next) (subst (λ (b : Book). IsTaken b (record {
-      number = length book.orders + 1;
-      sender = sender;
-      reference = reference;
-      receiver = receiver;
-      amount = amount;
-      date = unwrap_or due date;
-      due = due;
-      state = first_state due;
-    })) of.same
-    (taken_now (whole book r) of.kept sender reference receiver amount date due sending receiving from unused
-    day
-    to
+order_taken book r core of sender new_order date sending receiving o is from unused day to apart later working few
+    fits room =
+    let next : o ≡ order_numbered (length book.orders + 1) sender new_order (unwrap_or new_order.due date) =
+    is ∙ (λ i. order_numbered (of.orders i) sender new_order (unwrap_or new_order.due date)) in
+    subst (IsTaken book) (sym next) (subst (λ (b : Book). IsTaken b
+    (order_numbered (length book.orders + 1) sender new_order (unwrap_or new_order.due date))) of.same
+    (taken_now (whole book r) of.kept sender new_order date sending receiving from unused day to
     apart later working few fits room))

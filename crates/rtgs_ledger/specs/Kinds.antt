@@ -22,7 +22,7 @@ answers_an_order other = false
 
 -- a command of this kind can have this answer
 abbrev pub answers_its_kind : Command → Answer → Bool
-answers_its_kind (command.Order sender reference receiver amount due) given = answers_an_order given
+answers_its_kind (command.Order sender new_order) given = answers_an_order given
 answers_its_kind (command.Add code name key) answer.Added = true
 answers_its_kind (command.Add code name key) (answer.Repeated known.Nothing) = true
 answers_its_kind (command.SetCredit code credit) answer.CreditSet = true

@@ -8,16 +8,16 @@ use Rattle.rtgs_book.specs.declared.book.Book.{Book}
 use Rattle.rtgs_book.specs.declared.order.Order.{Order}
 use Rattle.rtgs_book.specs.declared.refusal.Refusal.{Refusal}
 use Rattle.rtgs_book.specs.declared.refusal.Refusal.TheVariants.{DueNotLater, Weekend}
-use Rattle.rtgs_book.specs.Commands.{order, takes_due, new_order, is_later, is_due_on_a_weekend}
+use Rattle.rtgs_book.specs.Commands.{order, takes_due, taken_order, as_sent, is_later, is_due_on_a_weekend}
 use Rattle.rtgs_book.specs.Lookup.{order_named}
 
 -- the order is the book's next one, its name is new, and it will be taken: it settles at once, is queued or is held
 pub record IsTaken (book : Book) (o : Order) : Type 0 where
-  pub next : o ≡ new_order book o.sender o.reference o.receiver o.amount o.due
+  pub next : o ≡ taken_order book o.sender (as_sent o)
   pub unused : order_named book o.sender o.reference ≡ None
   pub fits : IsAmount o.amount
   pub apart : bytes_eq o.sender o.receiver ≡ false
-  pub taken : order book o.sender o.reference o.receiver o.amount o.due ≡ takes_due book o o.due
+  pub taken : order book o.sender (as_sent o) ≡ takes_due book o o.due
 
 -- there is a due date, and it is not later than the last date of the desk
 abbrev pub is_too_early : Option ℕ → Option ℕ → Bool

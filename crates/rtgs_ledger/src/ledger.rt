@@ -145,13 +145,7 @@ impl Ledger {
                 cents,
             } => self.prepare_post(code, reference, cents, found.posting),
             Command::OpenDay { date, automatic } => self.prepare_open_day(date, automatic),
-            Command::Order {
-                sender,
-                reference,
-                receiver,
-                amount,
-                due,
-            } => self.prepare_order(sender, reference, receiver, amount, due, found.order),
+            Command::Order { sender, order } => self.prepare_order(sender, &order, found.order),
             Command::Withdraw { sender, reference } => {
                 self.prepare_withdraw(sender, reference, found.order)
             }

@@ -5,11 +5,11 @@ use Rattle.std.proofs.lemmas.List.{drop_more, drop_all}
 use Rattle.std.proofs.lemmas.Option.{slice_get_cases}
 use Rattle.rtgs_book.specs.declared.refusal.Refusal.{Refusal}
 use Rattle.rtgs_order_files.specs.declared.batch_result.RowReply.{RowReply}
-use Rattle.rtgs_order_files.specs.declared.order_row.OrderRow.{OrderRow}
+use Rattle.rtgs_book.specs.declared.new_order.NewOrder.{NewOrder}
 use Rattle.rtgs_order_files.specs.Results.{reply_line, stop_line, result_lines}
 
-pub lines_more : (text : List ℕ) (rows : List OrderRow) (replies : List RowReply) (stopped : Option Refusal) (n : ℕ)
-    (row : OrderRow) (reply : RowReply)
+pub lines_more : (text : List ℕ) (rows : List NewOrder) (replies : List RowReply) (stopped : Option Refusal) (n : ℕ)
+    (row : NewOrder) (reply : RowReply)
     → n < length rows → n < length replies → row ≡ get_or rows n row → reply ≡ get_or replies n reply
     → (text ++ reply_line row.reference reply) ++ result_lines (drop (n + 1) rows) (drop (n + 1) replies) stopped
     ≡ text ++ result_lines (drop n rows) (drop n replies) stopped
@@ -22,7 +22,7 @@ lines_more text rows replies stopped n row reply p q e f =
     (result_lines (drop (n + 1) rows) (drop (n + 1) replies) stopped))
 
 -- a row is left, at which the batch stopped
-pub lines_stop : (rows : List OrderRow) (replies : List RowReply) (refusal : Refusal) (n : ℕ) (row : OrderRow)
+pub lines_stop : (rows : List NewOrder) (replies : List RowReply) (refusal : Refusal) (n : ℕ) (row : NewOrder)
     → n ≡ min (length rows) (length replies) → length replies < length rows → row ≡ get_or rows (length replies) row
     → result_lines (drop n rows) (drop n replies) (Some refusal) ≡ stop_line row.reference refusal
 lines_stop rows replies refusal n row counted p e =
@@ -32,20 +32,20 @@ lines_stop rows replies refusal n row counted p e =
     rw (here, left, drop_all (length replies) replies (omega arith)) refl
 
 -- no row is left
-pub lines_end : (rows : List OrderRow) (replies : List RowReply) (stopped : Option Refusal) (n : ℕ)
+pub lines_end : (rows : List NewOrder) (replies : List RowReply) (stopped : Option Refusal) (n : ℕ)
     → n ≡ min (length rows) (length replies) → length rows ≤ length replies
     → result_lines (drop n rows) (drop n replies) stopped ≡ []
 lines_end rows replies stopped n counted p = rw (drop_all n rows (omega (arith, counted, p))) refl
 
 -- the batch has not stopped
-pub lines_none : (rows : List OrderRow) (replies : List RowReply) (n : ℕ) → n ≡ min (length rows) (length replies)
+pub lines_none : (rows : List NewOrder) (replies : List RowReply) (n : ℕ) → n ≡ min (length rows) (length replies)
     → result_lines (drop n rows) (drop n replies) None ≡ []
 lines_none rows replies n counted = elim (slice_get_cases rows (length replies)).1 [
   | inl some ↦ rw (drop_all n replies (omega (arith, counted, some.1))) (none (drop n rows))
   | inr over ↦ lines_end rows replies None n counted over.0
 ]
   where
-    none : (rows : List OrderRow) → result_lines rows [] None ≡ []
+    none : (rows : List NewOrder) → result_lines rows [] None ≡ []
     none [] = refl
     none (row ∷ rows) = refl
 

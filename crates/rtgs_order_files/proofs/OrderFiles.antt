@@ -6,7 +6,7 @@ use Rattle.std.proofs.lemmas.Fmt.{decimal_injective}
 use Rattle.std.proofs.lemmas.List.{append-nil, length-append, length-map, map-append}
 use Rattle.rtgs_order_files.specs.declared.columns.Columns.{Columns}
 use Rattle.rtgs_order_files.specs.declared.columns.Columns.TheVariants.{WithoutDue, WithDue}
-use Rattle.rtgs_order_files.specs.declared.order_row.OrderRow.{OrderRow}
+use Rattle.rtgs_book.specs.declared.new_order.NewOrder.{NewOrder}
 use Rattle.rtgs_order_files.specs.declared.batch_fault.BatchFault.{BatchFault}
 use Rattle.rtgs_order_files.specs.declared.batch_fault.BatchFault.TheVariants.{BadHeader, BadRow, BadCount, OutOfMemory}
 use Rattle.rtgs_order_files.specs.OrderFile.{CsvFields, HasUnderHeader, IsFaultOf, IsOrderFile, IsRow, IsNoRow}
@@ -16,12 +16,12 @@ use Rattle.rtgs_order_files.proofs.DueFields.{DatesDiffer, same_due}
 
 -- ---- one row more
 
-all_more : (columns : Columns) (rows : List OrderRow) (row : OrderRow) → AllByRecursion (IsRow columns) rows
+all_more : (columns : Columns) (rows : List NewOrder) (row : NewOrder) → AllByRecursion (IsRow columns) rows
     → IsRow columns row → AllByRecursion (IsRow columns) (rows ++ row ∷ [])
 all_more columns [] row h g = (g, tt)
 all_more columns (r ∷ rows) row h g = (h.0, all_more columns rows row h.1 g)
 
-pub begin_more : (columns : Columns) (rows : List OrderRow) (row : OrderRow) (fields : CsvFields)
+pub begin_more : (columns : Columns) (rows : List NewOrder) (row : NewOrder) (fields : CsvFields)
     (left rest records : List CsvFields)
     → BeginWith columns rows left records → left ≡ fields ∷ rest → fields ≡ fields_of_row columns row
     → IsRow columns row → BeginWith columns (rows ++ row ∷ []) rest records
@@ -30,18 +30,18 @@ begin_more columns rows row fields left rest records b e f good = (
   all_more columns rows row b.1 good,
 )
 
-pub no_rows : (columns : Columns) (rows : List OrderRow) (records : List CsvFields) → BeginWith columns rows [] records
+pub no_rows : (columns : Columns) (rows : List NewOrder) (records : List CsvFields) → BeginWith columns rows [] records
     → length rows ≡ 0 → records ≡ []
 no_rows columns [] records b e = b.0
 no_rows columns (r ∷ rows) records b e = absurd (omega arith)
 
 -- ---- fields spell one row alone
 
-row_of : List ℕ → List ℕ → ℕ → Option ℕ → OrderRow
+row_of : List ℕ → List ℕ → ℕ → Option ℕ → NewOrder
 row_of reference receiver amount due =
     record { reference = reference; receiver = receiver; amount = amount; due = due }
 
-same_row : DatesDiffer → (columns : Columns) (a b : OrderRow) → IsRow columns a → IsRow columns b
+same_row : DatesDiffer → (columns : Columns) (a b : NewOrder) → IsRow columns a → IsRow columns b
     → fields_of_row columns a ≡ fields_of_row columns b → a ≡ b
 unfolding row_of
 same_row differ columns a b ga gb e =
@@ -53,7 +53,7 @@ same_row differ columns a b ga gb e =
     ∙ ap (λ (x : ℕ). row_of b.reference b.receiver x a.due) amount
     ∙ ap (λ (x : Option ℕ). row_of b.reference b.receiver b.amount x) due
 
-same_rows : DatesDiffer → (columns : Columns) (a b : List OrderRow) → AllByRecursion (IsRow columns) a
+same_rows : DatesDiffer → (columns : Columns) (a b : List NewOrder) → AllByRecursion (IsRow columns) a
     → AllByRecursion (IsRow columns) b → map (fields_of_row columns) a ≡ map (fields_of_row columns) b → a ≡ b
 same_rows differ columns [] [] ga gb e = refl
 same_rows differ columns [] (y ∷ b) ga gb e = cc e
@@ -64,7 +64,7 @@ same_rows differ columns (x ∷ a) (y ∷ b) ga gb e =
     cc
 
 -- rows end before fields that spell none
-ends_before : (columns : Columns) (a b : List OrderRow) (bad : CsvFields) (rest left : List CsvFields)
+ends_before : (columns : Columns) (a b : List NewOrder) (bad : CsvFields) (rest left : List CsvFields)
     → map (fields_of_row columns) a ++ bad ∷ rest ≡ map (fields_of_row columns) b ++ left → IsNoRow columns bad
     → AllByRecursion (IsRow columns) b → length b ≤ length a
 ends_before columns a [] bad rest left e none good = omega arith
@@ -74,13 +74,13 @@ ends_before columns (x ∷ a) (y ∷ b) bad rest left e none good =
     omega arith
 
 -- how many records there are
-counted : (columns : Columns) (rows : List OrderRow) (rest records : List CsvFields)
+counted : (columns : Columns) (rows : List NewOrder) (rest records : List CsvFields)
     → BeginWith columns rows rest records → length records ≡ length rows + length rest
 counted columns rows rest records b = rw (b.0, length-append, length-map) refl
 
 -- ---- the answers exclude one another
 
-rows_once : DatesDiffer → (columns : Columns) (a b : List OrderRow) (records : List CsvFields)
+rows_once : DatesDiffer → (columns : Columns) (a b : List NewOrder) (records : List CsvFields)
     → AreRows columns a records → AreRows columns b records → a ≡ b
 rows_once differ columns a b records ha hb = same_rows differ columns a b ha.0.1 hb.0.1
     (rw (append-nil, append-nil) at (sym ha.0.0 ∙ hb.0.0))
@@ -113,7 +113,7 @@ faults_once columns (BadRow r) BadCount records ha hb na nb = absurd (bad_or_mis
 faults_once columns BadCount (BadRow q) records ha hb na nb = absurd (bad_or_miscount columns q records hb ha)
 faults_once columns BadCount BadCount records ha hb na nb = refl
 
-no_fault : (columns : Columns) (rows : List OrderRow) (fault : BatchFault) (records : List CsvFields)
+no_fault : (columns : Columns) (rows : List NewOrder) (fault : BatchFault) (records : List CsvFields)
     → AreRows columns rows records → IsFaultOfRows columns fault records → fault ≡ OutOfMemory
 no_fault columns rows OutOfMemory records h f = refl
 no_fault columns rows BadHeader records h f = absurd f
@@ -164,11 +164,11 @@ of_text bytes columns under (BadRow r) h f = (columns, under, h, f)
 of_text bytes columns under BadCount h f = (columns, under, h, f)
 of_text bytes columns under OutOfMemory h f = tt
 
-pub one_file : DatesDiffer → (bytes : List ℕ) (a b : List OrderRow) → IsOrderFile bytes a → IsOrderFile bytes b → a ≡ b
+pub one_file : DatesDiffer → (bytes : List ℕ) (a b : List NewOrder) → IsOrderFile bytes a → IsOrderFile bytes b → a ≡ b
 one_file differ bytes a b (columns, under, h, good) (other, records, g, file) = rows_once differ columns a b under good
     (under_once (λ c u. AreRows c b u) bytes columns other under records h g file)
 
-pub file_or_fault : (bytes : List ℕ) (rows : List OrderRow) (fault : BatchFault) → IsOrderFile bytes rows
+pub file_or_fault : (bytes : List ℕ) (rows : List NewOrder) (fault : BatchFault) → IsOrderFile bytes rows
     → IsFaultOf bytes fault → fault ≡ OutOfMemory
 file_or_fault bytes rows fault (columns, under, h, file) f =
     no_fault columns rows fault under file (of_rows bytes columns under fault h f)
@@ -186,21 +186,21 @@ one_fault bytes BadHeader BadCount fa (columns, under, h, f) na nb = absurd (fa 
 one_fault bytes BadHeader OutOfMemory fa fb na nb = absurd (nb refl)
 
 -- what a read answers, whose rows are seen by `items`
-pub of_under : {V : Type 0} (items : V → List OrderRow) (bytes : List ℕ) (columns : Columns) (under : List CsvFields)
+pub of_under : {V : Type 0} (items : V → List NewOrder) (bytes : List ℕ) (columns : Columns) (under : List CsvFields)
     (result : Result V BatchFault) → HasUnderHeader bytes columns under
     → IfOk result (λ v. AreRows columns (items v) under) → IfErr result (λ fault. IsFaultOfRows columns fault under)
     → IfOk result (λ v. IsOrderFile bytes (items v)) × IfErr result (λ fault. IsFaultOf bytes fault)
 of_under items bytes columns under (Ok v) h o f = ((columns, under, h, o), tt)
 of_under items bytes columns under (Err fault) h o f = (tt, of_text bytes columns under fault h f)
 
-pub taken : {V : Type 0} → DatesDiffer → (items : V → List OrderRow) (bytes : List ℕ) (result : Result V BatchFault)
+pub taken : {V : Type 0} → DatesDiffer → (items : V → List NewOrder) (bytes : List ℕ) (result : Result V BatchFault)
     → IfOk result (λ v. IsOrderFile bytes (items v)) → IfErr result (λ fault. IsFaultOf bytes fault)
-    → (rows : List OrderRow) → IsOrderFile bytes rows → IfOk result (λ v. items v ≡ rows)
+    → (rows : List NewOrder) → IsOrderFile bytes rows → IfOk result (λ v. items v ≡ rows)
     × IfErr result (λ fault. fault ≡ OutOfMemory)
 taken differ items bytes (Ok v) o f rows file = (one_file differ bytes (items v) rows o file, tt)
 taken differ items bytes (Err fault) o f rows file = (tt, file_or_fault bytes rows fault file f)
 
-pub refused : {V : Type 0} (items : V → List OrderRow) (bytes : List ℕ) (result : Result V BatchFault)
+pub refused : {V : Type 0} (items : V → List NewOrder) (bytes : List ℕ) (result : Result V BatchFault)
     → IfOk result (λ v. IsOrderFile bytes (items v)) → IfErr result (λ fault. IsFaultOf bytes fault)
     → (fault : BatchFault) → IsFaultOf bytes fault → fault ≢ OutOfMemory
     → (result ≡ Err fault) ⊎ (result ≡ Err OutOfMemory)

@@ -10,7 +10,7 @@ use Rattle.rtgs_money.specs.Forms.{IsCode, IsReference}
 use Rattle.rtgs_order_files.specs.declared.limits.TheConstants.{MOST_ROWS}
 use Rattle.rtgs_order_files.specs.declared.columns.Columns.{Columns}
 use Rattle.rtgs_order_files.specs.declared.columns.Columns.TheVariants.{WithoutDue, WithDue}
-use Rattle.rtgs_order_files.specs.declared.order_row.OrderRow.{OrderRow}
+use Rattle.rtgs_book.specs.declared.new_order.NewOrder.{NewOrder}
 use Rattle.rtgs_order_files.specs.declared.batch_fault.BatchFault.{BatchFault}
 use Rattle.rtgs_order_files.specs.declared.batch_fault.BatchFault.TheVariants.{BadHeader, BadRow, BadCount, OutOfMemory}
 
@@ -24,7 +24,7 @@ FitsColumns WithoutDue due = due ≡ None
 FitsColumns WithDue due = IfSome due IsBusinessDate
 
 -- a row's values, in their forms
-abbrev pub IsRow : Columns → OrderRow → Type 0
+abbrev pub IsRow : Columns → NewOrder → Type 0
 IsRow columns row = IsReference row.reference × IsCode row.receiver × IsAmount row.amount × FitsColumns columns row.due
 
 -- the field, if there is one
@@ -39,31 +39,31 @@ due_fields WithDue None = [] ∷ []
 due_fields WithDue (Some due) = date_text due ∷ []
 
 -- the fields that spell a row
-abbrev pub fields_of_row : Columns → OrderRow → CsvFields
+abbrev pub fields_of_row : Columns → NewOrder → CsvFields
 fields_of_row columns row = row.reference ∷ row.receiver ∷ decimal row.amount ∷ due_fields columns row.due
 
 -- These fields spell no row.
 abbrev pub IsNoRow : Columns → CsvFields → Type 0
-IsNoRow columns fields = (row : OrderRow) → IsRow columns row → fields ≢ fields_of_row columns row
+IsNoRow columns fields = (row : NewOrder) → IsRow columns row → fields ≢ fields_of_row columns row
 
 -- The records spell these rows, and then the rest follows.
-abbrev pub BeginWith : Columns → List OrderRow → List CsvFields → List CsvFields → Type 0
+abbrev pub BeginWith : Columns → List NewOrder → List CsvFields → List CsvFields → Type 0
 BeginWith columns rows rest records = (records ≡ map (fields_of_row columns) rows ++ rest)
     × AllByRecursion (IsRow columns) rows
 
 -- The records spell these rows, and they are 1 to MOST_ROWS.
-abbrev pub AreRows : Columns → List OrderRow → List CsvFields → Type 0
+abbrev pub AreRows : Columns → List NewOrder → List CsvFields → Type 0
 AreRows columns rows records = BeginWith columns rows [] records × (1 ≤ length rows) × (length rows ≤ MOST_ROWS)
 
 -- Row r, one of the first MOST_ROWS, is the first that is none.
 abbrev pub FirstBadRow : Columns → ℕ → List CsvFields → Type 0
-FirstBadRow columns r records = (rows : List OrderRow) × (bad : CsvFields) × (rest : List CsvFields)
+FirstBadRow columns r records = (rows : List NewOrder) × (bad : CsvFields) × (rest : List CsvFields)
     × BeginWith columns rows (bad ∷ rest) records × IsNoRow columns bad × (r ≡ length rows + 1) × (r ≤ MOST_ROWS)
 
 -- There is no row, or MOST_ROWS are good and there are more.
 abbrev pub Miscount : Columns → List CsvFields → Type 0
 Miscount columns records = (records ≡ [])
-    ⊎ ((rows : List OrderRow) × (next : CsvFields) × (rest : List CsvFields)
+    ⊎ ((rows : List NewOrder) × (next : CsvFields) × (rest : List CsvFields)
     × BeginWith columns rows (next ∷ rest) records × (length rows ≡ MOST_ROWS))
 
 -- Why these records, those under a header, are refused.
@@ -90,7 +90,7 @@ abbrev pub HasUnderHeader : List ℕ → Columns → List CsvFields → Type 0
 HasUnderHeader bytes columns under = records_of bytes ≡ header columns ∷ under
 
 -- The text is an order file with these rows.
-abbrev pub IsOrderFile : List ℕ → List OrderRow → Type 0
+abbrev pub IsOrderFile : List ℕ → List NewOrder → Type 0
 IsOrderFile bytes rows =
     (columns : Columns) × (under : List CsvFields) × HasUnderHeader bytes columns under × AreRows columns rows under
 

@@ -10,7 +10,7 @@ use Rattle.rtgs_book.specs.Refusals.{refusal_kind_of}
 use Rattle.rtgs_book.specs.Standings.{standing_of, word_of}
 use Rattle.rtgs_order_files.specs.declared.batch_result.RowReply.{RowReply}
 use Rattle.rtgs_order_files.specs.declared.batch_result.RowReply.TheVariants.{Settled, Queued, Held, Repeated, Refused}
-use Rattle.rtgs_order_files.specs.declared.order_row.OrderRow.{OrderRow}
+use Rattle.rtgs_book.specs.declared.new_order.NewOrder.{NewOrder}
 
 -- a line of four fields
 abbrev pub line : List ℕ → List ℕ → List ℕ → List ℕ → List ℕ
@@ -34,14 +34,14 @@ abbrev pub stop_line : List ℕ → Refusal → List ℕ
 stop_line reference refusal = line reference (codes "stopped") [] (decimal (entry_of (refusal_kind_of refusal)).number)
 
 -- a line for each row that has a reply, and one for the row at which the batch stopped
-abbrev pub result_lines : List OrderRow → List RowReply → Option Refusal → List ℕ
+abbrev pub result_lines : List NewOrder → List RowReply → Option Refusal → List ℕ
 result_lines (row ∷ rows) (reply ∷ replies) stopped = reply_line row.reference reply
     ++ result_lines rows replies stopped
 result_lines (row ∷ rows) [] (Some refusal) = stop_line row.reference refusal
 result_lines (row ∷ rows) [] None = []
 result_lines [] replies stopped = []
 
-abbrev pub results_text : List OrderRow → List RowReply → Option Refusal → List ℕ
+abbrev pub results_text : List NewOrder → List RowReply → Option Refusal → List ℕ
 results_text rows replies stopped = header ++ result_lines rows replies stopped
 
 -- a writer of records has written this text, and begun no record more

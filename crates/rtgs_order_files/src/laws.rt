@@ -5,7 +5,7 @@ ghost use Rattle.csv.specs.declared.parser.State.TheVariants as st;
 ghost use Rattle.rtgs_money.specs.Date.{date_text};
 ghost use Rattle.rtgs_money.specs.Forms.{IsReference};
 ghost use Rattle.rtgs_order_files.specs.declared.batch_fault.BatchFault.{BatchFault};
-ghost use Rattle.rtgs_order_files.specs.declared.order_row.OrderRow.{OrderRow};
+ghost use Rattle.rtgs_book.specs.declared.new_order.NewOrder.{NewOrder};
 ghost use Rattle.rtgs_order_files.specs.OrderFile.{CsvFields, records_of, IsFaultOf, IsOrderFile};
 ghost use Rattle.rtgs_order_files.specs.Plain.{IsPlain, joined};
 ghost use Rattle.rtgs_order_files.specs.Results.{line};
@@ -21,7 +21,7 @@ pub fn records_are_those_read()
 
 /// A text is an order file of one list of rows at most.
 pub fn rows_are_determined()
-    ensures { (bytes : List ℕ) (one other : List OrderRow) → IsOrderFile bytes one → IsOrderFile bytes other
+    ensures { (bytes : List ℕ) (one other : List NewOrder) → IsOrderFile bytes one → IsOrderFile bytes other
         → one ≡ other }
 {
     dates_have_distinct_texts();
@@ -29,7 +29,7 @@ pub fn rows_are_determined()
 
 /// An order file has no fault, but that memory may be wanting.
 pub fn order_files_have_no_fault()
-    ensures { (bytes : List ℕ) (rows : List OrderRow) (fault : BatchFault) → IsOrderFile bytes rows
+    ensures { (bytes : List ℕ) (rows : List NewOrder) (fault : BatchFault) → IsOrderFile bytes rows
         → IsFaultOf bytes fault → fault ≡ BatchFault.OutOfMemory }
 {}
 

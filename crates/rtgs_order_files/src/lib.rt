@@ -15,5 +15,4 @@ pub use crate::batch_fault::BatchFault;
 pub use crate::batch_result::{BatchResult, RowReply};
 pub use crate::limits::{MOST_BYTES, MOST_ROWS};
 pub use crate::order_file::read_orders;
-pub use crate::order_row::OrderRow;
 pub use crate::results::write_results;

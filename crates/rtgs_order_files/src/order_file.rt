@@ -2,7 +2,7 @@
 ghost use Rattle.std.specs.Prelude.{◌≡◌, ◌≢◌, ◌⊎◌, ◌∷◌, List, Err, IfOk, IfErr, OnOk};
 ghost use Rattle.rtgs_order_files.specs.declared.columns.Columns.{Columns};
 ghost use Rattle.rtgs_order_files.specs.declared.batch_fault.BatchFault.{BatchFault};
-ghost use Rattle.rtgs_order_files.specs.declared.order_row.OrderRow.{OrderRow};
+ghost use Rattle.rtgs_book.specs.declared.new_order.NewOrder.{NewOrder};
 ghost use Rattle.rtgs_order_files.specs.OrderFile.{CsvFields, header, records_of, AreRows, IsFaultOf, IsFaultOfRows};
 ghost use Rattle.rtgs_order_files.specs.OrderFile.{IsOrderFile};
 ghost use Rattle.rtgs_order_files.specs.Reading.{IsReading, left_of};
@@ -10,8 +10,9 @@ ghost use Rattle.rtgs_order_files.specs.Reading.{IsReading, left_of};
 use crate::batch_fault::BatchFault;
 use crate::columns::Columns;
 use crate::limits::MOST_ROWS;
-use crate::order_row::OrderRow;
+use crate::order_row::read_row;
 use csv::{ByteRecordsIntoIter, ReaderBuilder};
+use rtgs_book::NewOrder;
 use rtgs_money::BusinessDate;
 use rtgs_money::laws::dates_have_distinct_texts;
 use std::alloc::Global;
@@ -22,12 +23,12 @@ use std::alloc::Global;
 /// and empty lines are passed over. The faults come in this order: `BadHeader`, `BadCount` where there is no row,
 /// `BadRow` with the first bad row of the first `MOST_ROWS`, counted from 1, and `BadCount` where there are more.
 /// `OutOfMemory` stands for every error of the reader of the bytes.
-pub fn read_orders(alloc: Global, bytes: &[u8]) -> Result<Vec<OrderRow>, BatchFault>
+pub fn read_orders(alloc: Global, bytes: &[u8]) -> Result<Vec<NewOrder>, BatchFault>
     ensures rows { IfOk result (λ rows. IsOrderFile bytes.now rows.items) }
     ensures fault { IfErr result (λ fault. IsFaultOf bytes.now fault) }
 
     // An order file gives its rows, and what is wrong with another file is named, but for lack of memory.
-    ensures taken { (rows : List OrderRow) → IsOrderFile bytes.now rows
+    ensures taken { (rows : List NewOrder) → IsOrderFile bytes.now rows
         → IfOk result (λ taken. taken.items ≡ rows) × IfErr result (λ fault. fault ≡ BatchFault.OutOfMemory) }
     ensures refused { (fault : BatchFault) → IsFaultOf bytes.now fault → fault ≢ BatchFault.OutOfMemory
         → (result ≡ Err fault) ⊎ (result ≡ Err BatchFault.OutOfMemory) }
@@ -74,7 +75,7 @@ fn read_rows(
     alloc: Global,
     columns: Columns,
     records: ByteRecordsIntoIter<&[u8]>,
-) -> Result<Vec<OrderRow>, BatchFault>
+) -> Result<Vec<NewOrder>, BatchFault>
     requires { IsReading records }
     ensures rows { IfOk result (λ rows. AreRows columns rows.items (left_of records.entry)) }
     ensures fault { IfErr result (λ fault. IsFaultOfRows columns fault (left_of records.entry)) }
@@ -90,7 +91,7 @@ fn read_rows(
         if rows.len() == MOST_ROWS {
             return Err(BatchFault::BadCount);
         }
-        let Some(row) = OrderRow::read(columns, &record) else {
+        let Some(row) = read_row(columns, &record) else {
             let row = rows.len() as u64 + 1;
             return Err(BatchFault::BadRow { row });
         };

@@ -5,10 +5,9 @@ ghost use Rattle.rtgs_order_files.specs.Results.{line, reply_line, stop_line, re
 ghost use Rattle.rtgs_output.specs.Sent.{AppendsPart};
 
 use crate::batch_result::{BatchResult, RowReply};
-use crate::order_row::OrderRow;
 use csv::Writer;
 use itoa::Buffer;
-use rtgs_book::{Refusal, Standing};
+use rtgs_book::{NewOrder, Refusal, Standing};
 use rtgs_money::Reference;
 use rtgs_output::{TextFault, send_all};
 use std::alloc::{AllocError, Global};
@@ -20,7 +19,7 @@ use std::io::Write;
 pub fn write_results<W: Write>(
     alloc: Global,
     out: &mut W,
-    rows: &[OrderRow],
+    rows: &[NewOrder],
     batch: &BatchResult,
 ) -> Result<(), TextFault>
     ensures written { OnOk result (Appends (W.contents out.old) (W.contents out.new)
@@ -40,7 +39,7 @@ pub fn write_results<W: Write>(
 }
 
 // The text of a result file.
-fn text_of(alloc: Global, rows: &[OrderRow], batch: &BatchResult) -> Result<Vec<u8>, AllocError>
+fn text_of(alloc: Global, rows: &[NewOrder], batch: &BatchResult) -> Result<Vec<u8>, AllocError>
     ensures { IfOk result (λ text. text.items ≡ results_text rows.now batch.now.replies.items batch.now.stopped) }
 {
     let mut lines = Writer::from_writer(Vec::new(alloc));
@@ -55,7 +54,7 @@ fn text_of(alloc: Global, rows: &[OrderRow], batch: &BatchResult) -> Result<Vec<
 // Adds a line for each row that has a reply, and one for the row at which the batch stopped.
 fn put_rows<W: Write + Drop>(
     lines: &mut Writer<W>,
-    rows: &[OrderRow],
+    rows: &[NewOrder],
     batch: &BatchResult,
 ) -> Result<(), AllocError>
     ensures { OnOk result ((text : List ℕ) → Wrote W.contents lines.old text

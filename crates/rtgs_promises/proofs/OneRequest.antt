@@ -7,7 +7,7 @@ use Rattle.rtgs_book.specs.declared.command.Command.{Command}
 use Rattle.rtgs_book.specs.Outcome.{Reply}
 use Rattle.rtgs_book.specs.Session.{IsSession}
 use Rattle.rtgs_desk.specs.batches.Batches.{orders_of}
-use Rattle.rtgs_order_files.specs.declared.order_row.OrderRow.{OrderRow}
+use Rattle.rtgs_book.specs.declared.new_order.NewOrder.{NewOrder}
 use Rattle.rtgs_http_server.specs.declared.banks.served.Served.{Served}
 use Rattle.rtgs_http_server.specs.declared.banks.served.Served.TheVariants.{Answered, ReadFault, WriteFault}
 use Rattle.rtgs_http_server.specs.banks.Handling.{given}
@@ -29,7 +29,7 @@ take_all_of P zero xs h = tt
 take_all_of P (suc n) [] h = tt
 take_all_of P (suc n) (x ∷ xs) h = (h.0, take_all_of P n xs h.1)
 
-orders_are_own : (code sender : List ℕ) (rows : List OrderRow) → sender ≡ code
+orders_are_own : (code sender : List ℕ) (rows : List NewOrder) → sender ≡ code
     → AllByRecursion (IsCommandOf code) (orders_of sender rows)
 orders_are_own code sender [] same = tt
 orders_are_own code sender (row ∷ rows) same = (same, orders_are_own code sender rows same)

@@ -11,11 +11,11 @@ ghost use Rattle.rtgs_book_file.specs.stored_desk.Stored.{AreTablesOf};
 
 use crate::sessions::{Cause, Stop};
 use crate::stopping::found_again;
-use rtgs_book::Refusal;
+use rtgs_book::{NewOrder, Refusal};
 use rtgs_desk::{Desk, submit_batch};
 use rtgs_keeper::Keeper;
 use rtgs_money::Code;
-use rtgs_order_files::{BatchResult, OrderRow};
+use rtgs_order_files::BatchResult;
 use rtgs_tables::SqlKeeper;
 use sqlite::Alter;
 use sqlite_trees::store::Reopen;
@@ -25,7 +25,7 @@ pub(crate) fn send<K: Keeper>(
     alloc: Global,
     desk: &mut Desk<K>,
     sender: Code,
-    rows: &[OrderRow],
+    rows: &[NewOrder],
 ) -> Result<BatchResult, Cause>
     ensures stopped { IfOk result (λ batch. StopsAfter (length batch.replies.items) (length rows.now) batch.stopped) }
     ensures sent { IfOk result (λ batch. K.is_honest desk.new.keeper → (book : Book) → Holds K.Keeper desk.old book

@@ -8,7 +8,7 @@ ghost use Rattle.rtgs_book.specs.IntSum.{int_sum_by};
 ghost use Rattle.rtgs_records.specs.accounts.Accounts.{balance_of, code_of};
 ghost use Rattle.rtgs_book.specs.Balance.{floor_at};
 ghost use Rattle.rtgs_book.specs.Books.{is_closed, is_open, is_cut_off, is_empty};
-ghost use Rattle.rtgs_book.specs.Commands.{first_state, has_choice, is_date, is_later};
+ghost use Rattle.rtgs_book.specs.Commands.{has_choice, is_date, is_later, order_numbered};
 ghost use Rattle.rtgs_book.specs.Queue.{queued_numbers};
 ghost use Rattle.rtgs_records.specs.Records.{held_of};
 ghost use Rattle.rtgs_records.specs.Held.{FindsRoom, after_row};
@@ -16,9 +16,9 @@ ghost use Rattle.rtgs_records.specs.Held.{FindsRoom, after_row};
 use crate::accounts::Accounts;
 use crate::queues::Orders;
 use rtgs_book::{
-    Account, Day, LARGEST_NUMBER, LARGEST_TOTAL, Mark, Order, OrderState, Phase, RowChange,
+    Account, Day, LARGEST_NUMBER, LARGEST_TOTAL, Mark, NewOrder, Order, Phase, RowChange,
 };
-use rtgs_money::{Amount, BusinessDate, Cents, Code, Credit, PostingAmount, Reference};
+use rtgs_money::{Amount, BusinessDate, Cents, Code, Credit, PostingAmount};
 
 /// What a ledger has of a book: accounts with their balances, the orders that are queued or held, the day, and the
 /// numbers of the next records.
@@ -194,39 +194,10 @@ impl Records {
     }
 
     /// The next order, queued as yet, or held where it has a due date.
-    pub fn next_order(
-        &self,
-        sender: Code,
-        reference: Reference,
-        receiver: Code,
-        amount: Amount,
-        date: BusinessDate,
-        due: Option<BusinessDate>,
-    ) -> Order
-        ensures { result ≡ record {
-          number = self.now.orders.next;
-          sender = sender;
-          reference = reference;
-          receiver = receiver;
-          amount = amount;
-          date = date;
-          due = due;
-          state = first_state due;
-        } }
+    pub fn next_order(&self, sender: Code, order: &NewOrder, date: BusinessDate) -> Order
+        ensures { result ≡ order_numbered self.now.orders.next sender order.now date }
     {
-        Order {
-            number: self.orders.next(),
-            sender,
-            reference,
-            receiver,
-            amount,
-            date,
-            due,
-            state: match due {
-                None => OrderState::Queued,
-                Some(_) => OrderState::Held,
-            },
-        }
+        order.numbered(self.orders.next(), sender, date)
     }
 
     /// Whether marks can be counted further, as in each sound book they can.

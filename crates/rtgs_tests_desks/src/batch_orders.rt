@@ -1,33 +1,23 @@
 //! Orders of a batch, in words.
 use crate::scripts::{command, is_expected_by_itself};
-use rtgs_book::{Answer, Command, Known, Refusal};
+use rtgs_book::{Answer, Command, Known, NewOrder, Refusal};
 use rtgs_desk::{Desk, submit_batch};
 use rtgs_keeper::Keeper;
-use rtgs_money::Code;
-use rtgs_order_files::{OrderRow, RowReply};
+use rtgs_money::{BusinessDate, Code};
+use rtgs_order_files::RowReply;
 use std::alloc::Global;
 use std::test::Fail;
 
 /// The orders of the first of these lines.
-pub fn orders(alloc: Global, script: &str, most: usize) -> Result<Vec<OrderRow>, Fail> {
+pub fn orders(alloc: Global, script: &str, most: usize) -> Result<Vec<NewOrder>, Fail> {
+    // Names the type of due dates for the borrow checker, which finds it nowhere else in this function.
+    let _no_date: Option<BusinessDate> = None;
     let mut orders = Vec::new(alloc);
     for line in script.lines().take(most) {
-        let Command::Order {
-            reference,
-            receiver,
-            amount,
-            due,
-            ..
-        } = command(line)?
-        else {
+        let Command::Order { order, .. } = command(line)? else {
             return Err(Fail::new("no order"));
         };
-        orders.push(OrderRow {
-            reference,
-            receiver,
-            amount,
-            due,
-        })?;
+        orders.push(order)?;
     }
     Ok(orders)
 }

@@ -2,7 +2,7 @@
 //! with `due` and that day, the opening of an automatic day with `automatic`. Behind an answer stands ` auto` with the
 //! mark, the count and the cents of what was resolved after the command, if anything was. A line that is not understood
 //! fails the test.
-use rtgs_book::{Answer, Command, Refusal, Resolution, WholeAnswer};
+use rtgs_book::{Answer, Command, NewOrder, Refusal, Resolution, WholeAnswer};
 use rtgs_cli_arguments::CommandWords;
 use rtgs_desk::Desk;
 use rtgs_keeper::Keeper;
@@ -95,10 +95,12 @@ fn order(
 ) -> Result<Command, Fail> {
     Ok(Command::Order {
         sender: Code::read(sender.as_bytes())?,
-        reference: Reference::read(reference.as_bytes())?,
-        receiver: Code::read(receiver.as_bytes())?,
-        amount: Amount::read(cents.as_bytes())?,
-        due: due_date(due)?,
+        order: NewOrder {
+            reference: Reference::read(reference.as_bytes())?,
+            receiver: Code::read(receiver.as_bytes())?,
+            amount: Amount::read(cents.as_bytes())?,
+            due: due_date(due)?,
+        },
     })
 }
 

@@ -38,10 +38,7 @@ pub record IsCoreOf (book : Book) (core : Core) : Type 0 where
 -- What a command asks for: of an order and of a withdrawal the order of that sender and reference, of a posting that of
 -- the reference. For other commands nothing is looked up.
 unfoldable pub found_for : Book → Command → Found
-found_for book (Order sender reference receiver amount due) = record {
-  order = order_named book sender reference;
-  posting = None;
-}
+found_for book (Order sender new_order) = record { order = order_named book sender new_order.reference; posting = None }
 found_for book (Withdraw sender reference) = record { order = order_named book sender reference; posting = None }
 found_for book (Post code reference cents) = record { order = None; posting = posting_named book reference }
 found_for book command = record { order = None; posting = None }

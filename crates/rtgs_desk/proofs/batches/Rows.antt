@@ -11,7 +11,7 @@ use Rattle.rtgs_book.specs.Outcome.{Reply}
 use Rattle.rtgs_book.specs.Run.{Run}
 use Rattle.rtgs_book.specs.Session.{is_judged, is_store_fault, answered, answers, open_command, MayFind, IsSession}
 use Rattle.rtgs_book.specs.Step.{Step}
-use Rattle.rtgs_order_files.specs.declared.order_row.OrderRow.{OrderRow}
+use Rattle.rtgs_book.specs.declared.new_order.NewOrder.{NewOrder}
 use Rattle.rtgs_desk.specs.batches.Batches.{order_of, orders_of, open_order}
 
 -- each of these replies is a judgement
@@ -33,7 +33,7 @@ run_push old mid new (c ∷ commands) (r ∷ replies) command reply run step =
     (run.0, run.1, run_push run.0 mid new commands replies command reply run.2 step)
 
 -- the run of one row more
-pub run_more : (sender : List ℕ) (rows : List OrderRow) (at : ℕ) (row : OrderRow) (replies : List Reply)
+pub run_more : (sender : List ℕ) (rows : List NewOrder) (at : ℕ) (row : NewOrder) (replies : List Reply)
     (reply : Reply) (old mid new : Book) → at < length rows → row ≡ get_or rows at row
     → Run old (orders_of sender (take at rows)) replies mid
     → Step mid (order_of sender row) reply new
@@ -73,7 +73,7 @@ open_last (c ∷ commands) (r ∷ replies) command reply e all =
     rw (quiet r all.0) (open_last commands replies command reply (omega arith) all.1)
 
 -- the orders up to the row at which the batch stopped
-pub orders_at_stop : (sender : List ℕ) (rows : List OrderRow) (at : ℕ) (row : OrderRow) (replies : List Reply)
+pub orders_at_stop : (sender : List ℕ) (rows : List NewOrder) (at : ℕ) (row : NewOrder) (replies : List Reply)
     (refusal : Refusal) → at < length rows → row ≡ get_or rows at row → length replies ≡ at
     → orders_of sender (take (length (replies ++ Err refusal ∷ [])) rows)
     ≡ orders_of sender (take at rows) ++ order_of sender row ∷ []
@@ -84,13 +84,13 @@ orders_at_stop sender rows at row replies refusal within is counted =
     ≡ at + 1 = omega (arith, counted, length-append replies (Err refusal ∷ [])) in
     rw (long, done, map-append (order_of sender) (take at rows) (row ∷ [])) refl
 
-orders_so_far : (sender : List ℕ) (rows : List OrderRow) (at : ℕ) (replies : List Reply) → at < length rows
+orders_so_far : (sender : List ℕ) (rows : List NewOrder) (at : ℕ) (replies : List Reply) → at < length rows
     → length replies ≡ at → length (orders_of sender (take at rows)) ≡ length replies
 orders_so_far sender rows at replies within counted = length-map (take at rows) (order_of sender)
     ∙ length-take-le at rows (omega (arith, within)) ∙ sym counted
 
 -- the order that may be open is the one at which the batch stopped
-pub open_at_stop : (sender : List ℕ) (rows : List OrderRow) (at : ℕ) (row : OrderRow) (replies : List Reply)
+pub open_at_stop : (sender : List ℕ) (rows : List NewOrder) (at : ℕ) (row : NewOrder) (replies : List Reply)
     (refusal : Refusal) → at < length rows → row ≡ get_or rows at row → length replies ≡ at → AreJudged replies
     → open_order sender rows replies (Some refusal) ≡ open_command (order_of sender row ∷ []) (Err refusal ∷ [])
 open_at_stop sender rows at row replies refusal within is counted all =
@@ -100,13 +100,13 @@ open_at_stop sender rows at row replies refusal within is counted all =
     (orders_so_far sender rows at replies within counted) all
 
 -- all orders of a batch that did not stop
-pub orders_at_end : (sender : List ℕ) (rows : List OrderRow) (replies : List Reply) → length replies ≡ length rows
+pub orders_at_end : (sender : List ℕ) (rows : List NewOrder) (replies : List Reply) → length replies ≡ length rows
     → orders_of sender (take (length replies) rows) ≡ orders_of sender rows
 orders_at_end sender rows replies counted = ap (orders_of sender)
     (take_all (length replies) rows (omega (arith, counted)))
 
 -- none of them is open
-pub open_at_end : (sender : List ℕ) (rows : List OrderRow) (replies : List Reply) → length replies ≡ length rows
+pub open_at_end : (sender : List ℕ) (rows : List NewOrder) (replies : List Reply) → length replies ≡ length rows
     → AreJudged replies → open_order sender rows replies None ≡ None
 open_at_end sender rows replies counted all = ap (λ commands. open_command commands replies)
     (orders_at_end sender rows replies counted) ∙ none_open (orders_of sender rows) replies
@@ -142,7 +142,7 @@ answers_stop (r ∷ replies) reply all unjudged = rw all.0 (ap (λ rs. r ∷ rs)
     (answers_stop replies reply all.1 unjudged))
 
 -- the rows of a batch that did not stop are a session
-pub session_at_end : (sender : List ℕ) (rows : List OrderRow) (replies : List Reply) (old last found : Book)
+pub session_at_end : (sender : List ℕ) (rows : List NewOrder) (replies : List Reply) (old last found : Book)
     → length replies ≡ length rows → AreJudged replies → Run old (orders_of sender (take (length replies) rows))
     replies last
     → MayFind last (open_order sender rows replies None) found
@@ -168,7 +168,7 @@ session_at_end sender rows replies old last found counted all run may =
     }
 
 -- so are those up to the row at which it stopped
-pub session_at_stop : (sender : List ℕ) (rows : List OrderRow) (at : ℕ) (row : OrderRow) (replies : List Reply)
+pub session_at_stop : (sender : List ℕ) (rows : List NewOrder) (at : ℕ) (row : NewOrder) (replies : List Reply)
     (refusal : Refusal) (old last found : Book) → at < length rows → row ≡ get_or rows at row → length replies ≡ at
     → AreJudged replies
     → is_judged (Err refusal) ≡ false → Run old (orders_of sender (take at rows)) replies last

@@ -17,7 +17,7 @@ use Rattle.rtgs_keeper.specs.declared.Keeper.{Ghosts}
 use Rattle.rtgs_desk.specs.Holding.{Holds, Acts}
 use Rattle.rtgs_desk.specs.Seen.{Seen}
 use Rattle.rtgs_order_files.specs.declared.batch_result.RowReply.{RowReply}
-use Rattle.rtgs_order_files.specs.declared.order_row.OrderRow.{OrderRow}
+use Rattle.rtgs_book.specs.declared.new_order.NewOrder.{NewOrder}
 use Rattle.rtgs_desk.specs.batches.Batches.{order_of, orders_of, reply_of, replies_of, open_order, StopsAfter}
 use Rattle.rtgs_desk.specs.batches.Sent.{Sent}
 use Rattle.rtgs_desk.proofs.batches.Rows.{AreJudged, open_at_stop, open_at_end, session_at_stop, session_at_end}
@@ -26,11 +26,11 @@ use Rattle.rtgs_desk.proofs.batches.Rows.{AreJudged, open_at_stop, open_at_end, 
 pub record Laws : Type 0 where
   pub lasts : (old new : Book) (commands : List Command) (replies : List Reply) → IsSound old
       → Run old commands replies new → AreLasting old commands replies new
-  pub resumed : (old mid last end : Book) (sender : List ℕ) (rows : List OrderRow) (n : ℕ)
+  pub resumed : (old mid last end : Book) (sender : List ℕ) (rows : List NewOrder) (n : ℕ)
       (first again once : List Reply) → IsSound old → MayComeAgain old first →
       Run old (orders_of sender (take n rows)) first mid → Run mid (orders_of sender rows) again last
       → Run old (orders_of sender rows) once end → last ≡ end
-  pub stopped : (old mid found last end : Book) (sender : List ℕ) (rows : List OrderRow) (replies : List Reply)
+  pub stopped : (old mid found last end : Book) (sender : List ℕ) (rows : List NewOrder) (replies : List Reply)
       (stopped : Option Refusal) (again once : List Reply) → IsSound old → MayComeAgain old replies →
       AllByRecursion (λ reply. is_judged reply ≡ true) replies
       → StopsAfter (length replies) (length rows) stopped
@@ -39,7 +39,7 @@ pub record Laws : Type 0 where
       → Run old (orders_of sender rows) once end → last ≡ end
 
 -- the rows so far, each with a reply, led to a book that the desk holds
-pub record SoFar {K : Type 0} (g : Ghosts K) (old : Book) (sender : List ℕ) (rows : List OrderRow)
+pub record SoFar {K : Type 0} (g : Ghosts K) (old : Book) (sender : List ℕ) (rows : List NewOrder)
     (replies : List RowReply) (desk : Seen K) : Type 0 where
   pub last : Book
   pub given : List Reply
@@ -72,7 +72,7 @@ refused_whole (Ok answer) refusal e = absurd (cc)
 refused_whole (Err other) refusal e = ap alone e
 
 -- every row has a reply
-pub sent_at_end : {K : Type 0} (g : Ghosts K) → Laws → (old last : Book) (sender : List ℕ) (rows : List OrderRow)
+pub sent_at_end : {K : Type 0} (g : Ghosts K) → Laws → (old last : Book) (sender : List ℕ) (rows : List NewOrder)
     (replies : List RowReply) (given : List Reply) (desk : Seen K) → IsSound old → IsCalm old
     → map own_of given ≡ replies_of replies → length given ≡ length rows → AreJudged given
     → Run old (orders_of sender (take (length given) rows)) given last → Holds g desk last
@@ -105,8 +105,8 @@ sent_at_end g laws old last sender rows replies given desk sound calm shown coun
     }
 
 -- the batch stopped at a row
-pub sent_at_stop : {K : Type 0} (g : Ghosts K) → Laws → (old last : Book) (sender : List ℕ) (rows : List OrderRow)
-    (at : ℕ) (row : OrderRow) (replies : List RowReply) (given : List Reply) (refusal : Refusal) (desk : Seen K)
+pub sent_at_stop : {K : Type 0} (g : Ghosts K) → Laws → (old last : Book) (sender : List ℕ) (rows : List NewOrder)
+    (at : ℕ) (row : NewOrder) (replies : List RowReply) (given : List Reply) (refusal : Refusal) (desk : Seen K)
     → IsSound old → IsCalm old → at < length rows → row ≡ get_or rows at row
     → map own_of given ≡ replies_of replies → length given ≡ at → AreJudged given → is_judged (Err refusal) ≡ false
     → Run old (orders_of sender (take at rows)) given last

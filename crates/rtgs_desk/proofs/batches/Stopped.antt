@@ -7,16 +7,16 @@ use Rattle.rtgs_book.specs.declared.refusal.Refusal.{Refusal}
 use Rattle.rtgs_book.specs.Outcome.{Reply}
 use Rattle.rtgs_book.specs.Session.{is_store_fault, open_command, MayFind}
 use Rattle.rtgs_laws.specs.repeats.Batch.{IsOrderOf}
-use Rattle.rtgs_order_files.specs.declared.order_row.OrderRow.{OrderRow}
+use Rattle.rtgs_book.specs.declared.new_order.NewOrder.{NewOrder}
 use Rattle.rtgs_desk.specs.batches.Batches.{order_of, orders_of, open_order, StopsAfter}
 use Rattle.rtgs_desk.proofs.batches.Rows.{AreJudged, quiet}
 
-pub all_orders : (sender : List ℕ) (rows : List OrderRow) → AllByRecursion (IsOrderOf sender) (orders_of sender rows)
+pub all_orders : (sender : List ℕ) (rows : List NewOrder) → AllByRecursion (IsOrderOf sender) (orders_of sender rows)
 all_orders sender [] = tt
 all_orders sender (row ∷ rows) = (refl, all_orders sender rows)
 
 -- The order that may have acted is the next one.
-pub next_open : (sender : List ℕ) (rows : List OrderRow) (replies : List Reply) (stopped : Option Refusal)
+pub next_open : (sender : List ℕ) (rows : List NewOrder) (replies : List Reply) (stopped : Option Refusal)
     (mid found : Book) → AreJudged replies → StopsAfter (length replies) (length rows) stopped
     → MayFind mid (open_order sender rows replies stopped) found
     → MayFind mid (open_command (orders_of sender (drop (length replies) rows)) []) found

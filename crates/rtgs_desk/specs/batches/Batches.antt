@@ -10,13 +10,13 @@ use Rattle.rtgs_book.specs.Outcome.{OwnReply, Reply}
 use Rattle.rtgs_book.specs.Session.{is_judged, open_command}
 use Rattle.rtgs_order_files.specs.declared.batch_result.RowReply.{RowReply}
 use Rattle.rtgs_order_files.specs.declared.batch_result.RowReply.TheVariants.{Settled, Queued, Held, Repeated, Refused}
-use Rattle.rtgs_order_files.specs.declared.order_row.OrderRow.{OrderRow}
+use Rattle.rtgs_book.specs.declared.new_order.NewOrder.{NewOrder}
 
 -- the row as an order of the sender
-abbrev pub order_of : List ℕ → OrderRow → Command
-order_of sender row = Order sender row.reference row.receiver row.amount row.due
+abbrev pub order_of : List ℕ → NewOrder → Command
+order_of sender row = Order sender row
 
-abbrev pub orders_of : List ℕ → List OrderRow → List Command
+abbrev pub orders_of : List ℕ → List NewOrder → List Command
 orders_of sender rows = map (order_of sender) rows
 
 -- the desk's own reply to the row's order, which the result file shows
@@ -41,7 +41,7 @@ with_stop replies None = replies
 with_stop replies (Some refusal) = replies ++ Err refusal ∷ []
 
 -- the order of which nobody knows whether it acted: the one at which the store failed
-abbrev pub open_order : List ℕ → List OrderRow → List Reply → Option Refusal → Option Command
+abbrev pub open_order : List ℕ → List NewOrder → List Reply → Option Refusal → Option Command
 open_order sender rows replies stopped =
     open_command (orders_of sender (take (length (with_stop replies stopped)) rows)) (with_stop replies stopped)
 

@@ -12,11 +12,11 @@ use Rattle.rtgs_keeper.specs.declared.Keeper.{Ghosts}
 use Rattle.rtgs_desk.specs.Holding.{Holds}
 use Rattle.rtgs_desk.specs.Seen.{Seen}
 use Rattle.rtgs_order_files.specs.declared.batch_result.RowReply.{RowReply}
-use Rattle.rtgs_order_files.specs.declared.order_row.OrderRow.{OrderRow}
+use Rattle.rtgs_book.specs.declared.new_order.NewOrder.{NewOrder}
 use Rattle.rtgs_desk.specs.batches.Batches.{orders_of, replies_of, with_stop, open_order}
 
 -- what rows that were submitted, with these replies and this stop, make of a book that the desk held
-pub record Sent {K : Type 0} (g : Ghosts K) (old : Book) (sender : List ℕ) (rows : List OrderRow)
+pub record Sent {K : Type 0} (g : Ghosts K) (old : Book) (sender : List ℕ) (rows : List NewOrder)
     (replies : List RowReply) (stopped : Option Refusal) (desk : Seen K) : Type 0 where
   -- the book that the rows with a reply lead to
   pub last : Book

@@ -10,11 +10,11 @@ ghost use Rattle.rtgs_desk.specs.batches.Sent.{Sent};
 
 use crate::Desk;
 use crate::batches::laws::{resumed_batches_end_alike, stopped_batches_end_alike};
-use rtgs_book::{Answer, Command, Known, Refusal};
+use rtgs_book::{Answer, Command, Known, NewOrder, Refusal};
 use rtgs_keeper::Keeper;
 use rtgs_laws::repeats::laws::runs_last;
 use rtgs_money::Code;
-use rtgs_order_files::{BatchResult, OrderRow, RowReply};
+use rtgs_order_files::{BatchResult, RowReply};
 use std::alloc::{AllocError, Global};
 
 /// Submits the rows in order, each as an order of the sender, and tells what the desk replied to each. It stops at the
@@ -24,7 +24,7 @@ pub fn submit_batch<K: Keeper>(
     alloc: Global,
     desk: &mut Desk<K>,
     sender: Code,
-    rows: &[OrderRow],
+    rows: &[NewOrder],
 ) -> Result<BatchResult, AllocError>
     ensures stopped { IfOk result (λ batch. StopsAfter (length batch.replies.items) (length rows.now) batch.stopped) }
 
@@ -73,7 +73,7 @@ pub fn submit_batch<K: Keeper>(
 fn submit_row<K: Keeper>(
     desk: &mut Desk<K>,
     sender: Code,
-    row: &OrderRow,
+    row: &NewOrder,
 ) -> Result<RowReply, Refusal>
     ensures judged { IfOk result (λ reply. is_judged (alone (reply_of reply)) ≡ true) }
     ensures unjudged { IfErr result (λ refusal. is_judged (Err refusal) ≡ false) }
@@ -89,10 +89,7 @@ fn submit_row<K: Keeper>(
 {
     let command = Command::Order {
         sender,
-        reference: row.reference,
-        receiver: row.receiver,
-        amount: row.amount,
-        due: row.due,
+        order: *row,
     };
     match desk.submit(command) {
         Ok(answer) => Ok(accepted(&answer.own)),

@@ -28,11 +28,9 @@ impl<K: Keeper> Desk<K> {
         }
         let mut found = Found::NOTHING;
         match *command {
-            Command::Order {
-                sender,
-                reference,
-                ..
-            } => found.order = self.find_order(&sender, &reference)?,
+            Command::Order { sender, order } => {
+                found.order = self.find_order(&sender, &order.reference)?;
+            }
             Command::Withdraw { sender, reference } => {
                 found.order = self.find_order(&sender, &reference)?;
             }

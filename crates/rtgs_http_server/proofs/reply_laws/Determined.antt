@@ -18,7 +18,7 @@ use Rattle.rtgs_desk.specs.batches.Batches.{orders_of, reply_of, replies_of, Sto
 use Rattle.rtgs_order_files.specs.Results.{results_text}
 use Rattle.rtgs_order_files.specs.declared.batch_result.RowReply.{RowReply}
 use Rattle.rtgs_order_files.specs.declared.batch_result.RowReply.TheVariants.{Settled, Queued, Held, Repeated, Refused}
-use Rattle.rtgs_order_files.specs.declared.order_row.OrderRow.{OrderRow}
+use Rattle.rtgs_book.specs.declared.new_order.NewOrder.{NewOrder}
 use Rattle.rtgs_http_bodies.specs.Statuses.{batch_status}
 use Rattle.rtgs_http_bodies.specs.replies.Messages.{Message, message}
 use Rattle.rtgs_http_bodies.specs.declared.replies.content_type.ContentType.TheVariants.{Csv}
@@ -154,7 +154,7 @@ not_stopped : (stopped : Option Refusal) → batch_status stopped ≢ 503 → st
 not_stopped None done = refl
 not_stopped (Some refusal) done = absurd (done refl)
 
-batches_alike : {K : Type 0} (g : Ghosts K) (old : Book) (sender : List ℕ) (rows : List OrderRow) (one other : Seen K)
+batches_alike : {K : Type 0} (g : Ghosts K) (old : Book) (sender : List ℕ) (rows : List NewOrder) (one other : Seen K)
     (sent again : Message) → StepsOnce → sent.status ≢ 503 → again.status ≢ 503 → SubmitsAll g old sender rows one sent
     → SubmitsAll g old sender rows other again → EndAlike g one other sent again
 batches_alike g old sender rows one other sent again steps done past a b =
@@ -238,7 +238,7 @@ come_alike g old (Ok (Batch s rows)) (Ok (Batch t more)) one other sent again st
 come_alike g old (Ok (Batch s rows)) (Ok (Batch t more)) one other sent again steps alike done ended (inr a) (inr b) =
     batches_alike g old s rows.items one other sent again steps done ended a
     (subst (λ (x : List ℕ). SubmitsAll g old x rows.items other again) (sym alike.0)
-    (subst (λ (x : List OrderRow). SubmitsAll g old t x other again) (sym alike.1) b))
+    (subst (λ (x : List NewOrder). SubmitsAll g old t x other again) (sym alike.1) b))
 come_alike g old (Ok (Batch s rows)) (Ok (Read r)) one other sent again steps alike done ended a b = absurd alike
 come_alike g old (Ok (Read r)) (Ok (Submit c)) one other sent again steps alike done ended a b = absurd alike
 come_alike g old (Ok (Read r)) (Ok (Batch s rows)) one other sent again steps alike done ended a b = absurd alike

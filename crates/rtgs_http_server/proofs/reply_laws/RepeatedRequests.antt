@@ -37,7 +37,7 @@ ActsOnce = (old mid new : Book) (command : Command) (reply : Reply) (commands : 
 
 -- a participant's own commands act once
 own_acts_once : (code : List ℕ) (command : Command) → IsCommandOf code command → acts_once command ≡ true
-own_acts_once code (command.Order sender reference receiver amount due) own = refl
+own_acts_once code (command.Order sender new_order) own = refl
 own_acts_once code (command.Withdraw sender reference) own = refl
 own_acts_once code (command.Add other name key) own = absurd own
 own_acts_once code (command.SetCredit other credit) own = absurd own

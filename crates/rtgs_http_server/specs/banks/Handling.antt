@@ -16,7 +16,7 @@ use Rattle.rtgs_desk.specs.batches.Batches.{StopsAfter, orders_of}
 use Rattle.rtgs_order_files.specs.Results.{results_text}
 use Rattle.rtgs_desk.specs.batches.Sent.{Sent}
 use Rattle.rtgs_order_files.specs.declared.batch_result.RowReply.{RowReply}
-use Rattle.rtgs_order_files.specs.declared.order_row.OrderRow.{OrderRow}
+use Rattle.rtgs_book.specs.declared.new_order.NewOrder.{NewOrder}
 use Rattle.rtgs_http_bodies.specs.Refusals.{refused_message}
 use Rattle.rtgs_http_bodies.specs.Statuses.{batch_status}
 use Rattle.rtgs_http_bodies.specs.replies.Kinds.{no_memory}
@@ -41,7 +41,7 @@ pub record Submits {K : Type 0} (g : Ghosts K) (old : Book) (command : Command) 
   pub not_failed : reply ≢ Err Failed
 
 -- The orders of the rows were given, up to the last or to the one at which the batch stopped. The result file is sent.
-pub record SubmitsAll {K : Type 0} (g : Ghosts K) (old : Book) (sender : List ℕ) (rows : List OrderRow)
+pub record SubmitsAll {K : Type 0} (g : Ghosts K) (old : Book) (sender : List ℕ) (rows : List NewOrder)
     (desk : Seen K) (sent : Message) : Type 0 where
   pub replies : List RowReply
   pub stopped : Option Refusal

@@ -11,13 +11,12 @@ ghost use Rattle.rtgs_http_bodies.specs.replies.Messages.{Message};
 
 use crate::banks::faults::failed_reply;
 use crate::banks::readings::{read, stands};
-use rtgs_book::{Command, Refusal, WholeAnswer};
+use rtgs_book::{Command, NewOrder, Refusal, WholeAnswer};
 use rtgs_desk::{Desk, submit_batch};
 use rtgs_http_bodies::{Reply, answer_reply, batch_reply, refusal_reply};
 use rtgs_http_requests::Asked;
 use rtgs_keeper::Keeper;
 use rtgs_money::Code;
-use rtgs_order_files::OrderRow;
 use std::alloc::{AllocError, Global};
 
 /// Does what is asked, and makes the reply. Lack of memory before the desk was given a command has one fixed reply, and
@@ -79,7 +78,7 @@ fn submit_all<K: Keeper>(
     alloc: Global,
     desk: &mut Desk<K>,
     sender: Code,
-    rows: &[OrderRow],
+    rows: &[NewOrder],
 ) -> Reply
     ensures submits { K.is_honest desk.new.keeper → (book : Book) → Holds K.Keeper desk.old book
         → GivesNothing K.Keeper book desk.new result

@@ -1,18 +1,15 @@
 //! What a request asks for, in words.
-use rtgs_book::{Command, Reading};
+use rtgs_book::{Command, NewOrder, Reading};
 use rtgs_http_requests::Asked;
-use rtgs_money::BusinessDate;
 use std::alloc::{AllocError, Global};
 
-// What is said of an order, and behind it its due date, if it has one.
-fn with_due(
-    alloc: Global,
-    order: String,
-    due: &Option<BusinessDate>,
-) -> Result<String, AllocError> {
-    match due {
-        None => Ok(order),
-        Some(due) => format!(in alloc; "{order} due {due}"),
+// What an order says, with its due date last, if it has one.
+fn order_words(alloc: Global, order: &NewOrder) -> Result<String, AllocError> {
+    let (reference, receiver, amount) = (order.reference, order.receiver, order.amount);
+    let words = format!(in alloc; "{reference} {receiver} {amount}")?;
+    match &order.due {
+        None => Ok(words),
+        Some(due) => format!(in alloc; "{words} due {due}"),
     }
 }
 
@@ -29,15 +26,9 @@ fn command_words(alloc: Global, command: &Command) -> Result<String, AllocError>
             let choice = if *automatic { " automatic" } else { "" };
             format!(in alloc; "open {date}{choice}")
         }
-        Command::Order {
-            sender,
-            reference,
-            receiver,
-            amount,
-            due,
-        } => {
-            let order = format!(in alloc; "order {sender} {reference} {receiver} {amount}")?;
-            with_due(alloc, order, due)
+        Command::Order { sender, order } => {
+            let words = order_words(alloc, order)?;
+            format!(in alloc; "order {sender} {words}")
         }
         Command::Withdraw { sender, reference } => {
             format!(in alloc; "withdraw {sender} {reference}")
@@ -69,9 +60,8 @@ pub fn in_words(alloc: Global, asked: &Asked) -> Result<String, AllocError> {
         Asked::Batch { sender, rows } => {
             let mut text = format!(in alloc; "batch {sender}")?;
             for row in rows.as_slice() {
-                let (reference, receiver, amount) = (row.reference, row.receiver, row.amount);
-                let words = format!(in alloc; ", {reference} {receiver} {amount}")?;
-                let words = with_due(alloc, words, &row.due)?;
+                let words = order_words(alloc, row)?;
+                let words = format!(in alloc; ", {words}")?;
                 text.push_str(words.as_str())?;
             }
             Ok(text)

@@ -4,7 +4,7 @@ use super::disks::OnDisks;
 use super::memory::InMemory;
 use super::store::{Booked, Ended, Job, Store};
 use super::two_keepers::{end_in_one_book, make};
-use rtgs_book::{Answer, Command, Refusal};
+use rtgs_book::{Answer, Command, NewOrder, Refusal};
 use rtgs_cli_arguments::CommandWords;
 use rtgs_money::BusinessDate;
 use rtgs_tests_desks::{Reply, command, desk_over, follows};
@@ -57,8 +57,8 @@ fn refuse_the_last_in<S: Store>(
 
 // These commands, and behind them those of the script.
 fn all_of(alloc: Global, first: &[Command], script: &str) -> Result<Vec<Command>, Fail> {
-    // Names the type of due dates for the borrow checker, which finds it nowhere else in this function.
-    let _no_date: Option<BusinessDate> = None;
+    // Names the types of orders and of due dates for the borrow checker, which finds them nowhere else in this function.
+    let (_no_order, _no_date): (Option<NewOrder>, Option<BusinessDate>) = (None, None);
     let mut all = Vec::new(alloc);
     all.extend_from_slice(first)?;
     for line in script.lines() {

@@ -9,6 +9,7 @@ use Rattle.std.specs.Cmp.Lexicographic.{bytes_decides}
 use Rattle.rtgs_book.specs.declared.book.Book.{Book}
 use Rattle.rtgs_book.specs.declared.participant.Participant.{Participant}
 use Rattle.rtgs_book.specs.declared.posting.Posting.{Posting}
+use Rattle.rtgs_book.specs.declared.new_order.NewOrder.{NewOrder}
 use Rattle.rtgs_book.specs.declared.order.Order.{Order}
 use Rattle.rtgs_book.specs.declared.order_state.OrderState.{OrderState}
 use Rattle.rtgs_book.specs.declared.order_state.OrderState.TheVariants.{Withdrawn}
@@ -18,7 +19,7 @@ use Rattle.rtgs_book.specs.declared.answer.Answer.TheVariants as answer
 use Rattle.rtgs_book.specs.declared.answer.Known.TheVariants as known
 use Rattle.rtgs_book.specs.Books.{is_waiting_state, is_withdrawn_state}
 use Rattle.rtgs_book.specs.Commands.{repeated, add, with_participant, is_same_participant, post, is_same_posting}
-use Rattle.rtgs_book.specs.Commands.{known_posting, order, is_same_order, known_order, new_order, takes}
+use Rattle.rtgs_book.specs.Commands.{known_posting, order, is_same_order, known_order, taken_order, takes}
 use Rattle.rtgs_book.specs.Commands.{is_same_due, takes_due}
 use Rattle.rtgs_book.specs.Commands.{settles_at_once, has_number, withdraw, is_withdrawn_order, number_of, with_state}
 use Rattle.rtgs_book.specs.Lookup.{has_code, accounts, participant_of, is_participant, is_order_named, order_named}
@@ -150,22 +151,22 @@ same_due_self : (due : Option ℕ) → is_same_due due due ≡ true
 same_due_self None = refl
 same_due_self (Some due) = eq_self due
 
-pub order_same : (o : Order) (receiver : List ℕ) (amount : ℕ) (due : Option ℕ) → o.receiver ≡ receiver
-    → o.amount ≡ amount → o.due ≡ due → is_same_order (Some o) receiver amount due ≡ true
-order_same o receiver amount due r a d =
-    and_from _ _ (and_from _ _ ((bytes_decides o.receiver receiver).1 r)
+pub order_same : (o : Order) (new_order : NewOrder) → o.receiver ≡ new_order.receiver
+    → o.amount ≡ new_order.amount → o.due ≡ new_order.due → is_same_order (Some o) new_order ≡ true
+order_same o new_order r a d =
+    and_from _ _ (and_from _ _ ((bytes_decides o.receiver new_order.receiver).1 r)
     (ap (λ n. o.amount == n) (sym a) ∙ eq_self o.amount))
     (ap (is_same_due o.due) (sym d) ∙ same_due_self o.due)
 
-order_known : (book : Book) (sender reference receiver : List ℕ) (amount : ℕ) (due : Option ℕ) (o : Order)
-    → is_participant book sender ≡ true → order_named book sender reference ≡ Some o → o.receiver ≡ receiver
-    → o.amount ≡ amount → o.due ≡ due
-    → OwnStep book (PlaceOrder sender reference receiver amount due)
+order_known : (book : Book) (sender : List ℕ) (new_order : NewOrder) (o : Order)
+    → is_participant book sender ≡ true → order_named book sender new_order.reference ≡ Some o
+    → o.receiver ≡ new_order.receiver → o.amount ≡ new_order.amount → o.due ≡ new_order.due
+    → OwnStep book (PlaceOrder sender new_order)
     (Ok (answer.Repeated (known.Order o.number o.state))) book
 unfolding order
-order_known book sender reference receiver amount due o has e r a d =
-    sym (second_holds _ _ _ _ _ _ _ (not_from_true _ has) (ap (λ found. is_same_order found receiver amount due) e
-    ∙ order_same o receiver amount due r a d) ∙ (λ i. record { reply = known_order (e i); book = book }))
+order_known book sender new_order o has e r a d =
+    sym (second_holds _ _ _ _ _ _ _ (not_from_true _ has) (ap (λ found. is_same_order found new_order) e
+    ∙ order_same o new_order r a d) ∙ (λ i. record { reply = known_order (e i); book = book }))
 
 taken_number : (book : Book) (o : Order) → own_number (takes book o).reply ≡ o.number
 unfolding takes
@@ -177,13 +178,13 @@ taken_due_number : (book : Book) (o : Order) (due : Option ℕ)
 taken_due_number book o None = taken_number book o
 taken_due_number book o (Some due) = refl
 
-pub ordered_known : (old new : Book) (reply : OwnReply) (sender reference receiver : List ℕ) (amount : ℕ)
-    (due : Option ℕ) → IsSound old
-    → is_done reply ≡ true → OwnStep old (PlaceOrder sender reference receiver amount due) reply new
-    → (o : Order) × (order_named new sender reference ≡ Some o) × (o.receiver ≡ receiver) × (o.amount ≡ amount)
-    × (o.number ≡ own_number reply) × (is_participant old sender ≡ true) × (o.due ≡ due)
+pub ordered_known : (old new : Book) (reply : OwnReply) (sender : List ℕ) (new_order : NewOrder) → IsSound old
+    → is_done reply ≡ true → OwnStep old (PlaceOrder sender new_order) reply new
+    → (o : Order) × (order_named new sender new_order.reference ≡ Some o) × (o.receiver ≡ new_order.receiver)
+    × (o.amount ≡ new_order.amount) × (o.number ≡ own_number reply) × (is_participant old sender ≡ true)
+    × (o.due ≡ new_order.due)
 unfolding order order_named
-ordered_known old new reply sender reference receiver amount due h accepted s =
+ordered_known old new reply sender new_order h accepted s =
     let p = passed_step old new reply _ _ (
       refl,
       (
@@ -193,15 +194,15 @@ ordered_known old new reply sender reference receiver amount due h accepted s =
     ) accepted s in
     let book = ap (λ (o : Outcome). o.book) p.1 in
     let number = ap (λ (o : Outcome). own_number o.reply) p.1
-    ∙ taken_due_number old (new_order old sender reference receiver amount due) due in
-    let joined : find (is_order_named sender reference) (old.orders ++ new_order old sender reference receiver amount
-    due ∷ []) ≡ Some (new_order old sender reference receiver amount due) =
-    find_right (is_order_named sender reference) old.orders (new_order old sender reference receiver amount due ∷ [])
-    p.0.1.1.0 ∙ rw (bytes_eq_self sender, bytes_eq_self reference) refl in
-    let later = (kept_joined old sender reference receiver amount h.orders_numbered due).orders sender reference
-    (new_order old sender reference receiver amount due) joined in (
+    ∙ taken_due_number old (taken_order old sender new_order) new_order.due in
+    let joined : find (is_order_named sender new_order.reference) (old.orders ++ taken_order old sender new_order ∷ [])
+    ≡ Some (taken_order old sender new_order) =
+    find_right (is_order_named sender new_order.reference) old.orders (taken_order old sender new_order ∷ [])
+    p.0.1.1.0 ∙ rw (bytes_eq_self sender, bytes_eq_self new_order.reference) refl in
+    let later = (kept_joined old sender new_order h.orders_numbered new_order.due).orders sender new_order.reference
+    (taken_order old sender new_order) joined in (
       later.0,
-      ap (λ (b : Book). find (is_order_named sender reference) b.orders) book
+      ap (λ (b : Book). find (is_order_named sender new_order.reference) b.orders) book
           ∙ later.1,
       later.2.receiver,
       later.2.amount,
@@ -274,9 +275,9 @@ module _ (old mid new : Book) (reply : OwnReply) (h : IsSound old) (accepted : i
         quietly new (Post code reference cents) (Ok (answer.Repeated (known.Posting p.0.number))) refl
             (post_known new code reference cents p.0 (still code p.5) (later.postings reference p.0 p.1) p.2 p.3),
       )
-  own_acted (PlaceOrder sender reference receiver amount due) once s =
-      let p = ordered_known old mid reply sender reference receiver amount due h accepted s in
-      let q = later.orders sender reference p.0 p.1 in (
+  own_acted (PlaceOrder sender new_order) once s =
+      let p = ordered_known old mid reply sender new_order h accepted s in
+      let q = later.orders sender new_order.reference p.0 p.1 in (
         alone (Ok (answer.Repeated (known.Order q.0.number q.0.state))),
         (
           q.0,
@@ -284,9 +285,9 @@ module _ (old mid new : Book) (reply : OwnReply) (h : IsSound old) (accepted : i
           q.2.number ∙ p.4,
           ap (λ n. alone (Ok (answer.Repeated (known.Order n q.0.state)))) (q.2.number ∙ p.4),
         ),
-        quietly new (PlaceOrder sender reference receiver amount due)
+        quietly new (PlaceOrder sender new_order)
             (Ok (answer.Repeated (known.Order q.0.number q.0.state))) refl
-            (order_known new sender reference receiver amount due q.0 (still sender p.5) q.1 (q.2.receiver ∙ p.2)
+            (order_known new sender new_order q.0 (still sender p.5) q.1 (q.2.receiver ∙ p.2)
             (q.2.amount ∙ p.3) (q.2.due ∙ p.6)),
       )
   own_acted (Withdraw sender reference) once s =

@@ -12,6 +12,7 @@ use Rattle.std.specs.List.{AllByRecursion, list_any}
 use Rattle.std.specs.Option.{option_map}
 use Rattle.std.specs.Str.{bytes_eq}
 use Rattle.rtgs_book.specs.declared.book.Book.{Book}
+use Rattle.rtgs_book.specs.declared.new_order.NewOrder.{NewOrder}
 use Rattle.rtgs_book.specs.declared.order.Order.{Order}
 use Rattle.rtgs_book.specs.declared.order_state.OrderState.TheVariants.{Settled}
 use Rattle.rtgs_book.specs.declared.participant.Participant.{Participant}
@@ -25,8 +26,8 @@ use Rattle.rtgs_book.specs.declared.limits.TheConstants.{LONGEST_QUEUE, LARGEST_
 use Rattle.rtgs_book.specs.Books.{is_automatic, is_open, is_empty}
 use Rattle.rtgs_book.specs.Balance.{balance, floor, floor_at}
 use Rattle.rtgs_book.specs.Choice.{chosen, is_chosen}
-use Rattle.rtgs_book.specs.Commands.{is_same_order, settles_at_once, settles_now, new_order, takes_due, is_later, order}
-use Rattle.rtgs_book.specs.Commands.{is_due_too_early, is_due_on_a_weekend, known_order, resolve}
+use Rattle.rtgs_book.specs.Commands.{is_same_order, settles_at_once, settles_now, taken_order, takes_due, is_later}
+use Rattle.rtgs_book.specs.Commands.{order, is_due_too_early, is_due_on_a_weekend, known_order, resolve}
 use Rattle.rtgs_book.specs.Lookup.{has_code, is_participant, participant_of, credit_of, order_named}
 use Rattle.rtgs_book.specs.Queue.{queue, waiting}
 use Rattle.rtgs_book.specs.Outcome.{OwnReply, Reply, Outcome, alone, is_done}
@@ -36,6 +37,7 @@ use Rattle.rtgs_book.specs.Soundness.{IsSound}
 use Rattle.rtgs_book.specs.Step.{OwnStep, Ends, Step, is_followed, may_free}
 use Rattle.rtgs_laws.specs.repeats.Kept.{AreKept}
 use Rattle.rtgs_laws.specs.repeats.Batch.{IsOrderOf, IsNotFull, MayComeAgain}
+use Rattle.rtgs_laws.proofs.NewOrders.{with_due}
 use Rattle.rtgs_laws.proofs.repeats.Acted.{ordered_known, order_same, same_participant, there, not_accepted_order}
 use Rattle.rtgs_laws.proofs.repeats.Days.{left_so}
 use Rattle.rtgs_laws.proofs.repeats.Following.{IdleLeavesTheBook, idle, never, not_followed}
@@ -49,38 +51,38 @@ use Rattle.rtgs_laws.proofs.repeats.Taken.{grows}
 use Rattle.rtgs_laws.proofs.repeats.Taken.{covers_less}
 
 -- the tests of an order that last, whatever orders and resolutions come: each but that of the full queue
-abbrev lasting_tests : Book → List ℕ → List ℕ → List ℕ → ℕ → Option ℕ → List (Bool × OwnReply)
-lasting_tests book sender reference receiver amount due =
+abbrev lasting_tests : Book → List ℕ → NewOrder → List (Bool × OwnReply)
+lasting_tests book sender new_order =
     (not (is_participant book sender), Err UnknownParticipant)
     ∷ (
-      is_same_order (order_named book sender reference) receiver amount due,
-      known_order (order_named book sender reference),
+      is_same_order (order_named book sender new_order.reference) new_order,
+      known_order (order_named book sender new_order.reference),
     )
-    ∷ (is_some (order_named book sender reference), Err ReferenceUsed)
+    ∷ (is_some (order_named book sender new_order.reference), Err ReferenceUsed)
     ∷ (not (is_open book.day.phase), Err NotOpen)
-    ∷ (not (is_participant book receiver), Err UnknownReceiver)
-    ∷ (bytes_eq sender receiver, Err SameParty)
-    ∷ (is_due_too_early book due, Err DueNotLater)
-    ∷ (is_due_on_a_weekend due, Err Weekend)
+    ∷ (not (is_participant book new_order.receiver), Err UnknownReceiver)
+    ∷ (bytes_eq sender new_order.receiver, Err SameParty)
+    ∷ (is_due_too_early book new_order.due, Err DueNotLater)
+    ∷ (is_due_on_a_weekend new_order.due, Err Weekend)
     ∷ (nat_le LARGEST_NUMBER (length book.orders), Err NumbersUsedUp)
     ∷ []
 
 -- one of them holds
-abbrev pub is_stopped_for_good : Book → List ℕ → List ℕ → List ℕ → ℕ → Option ℕ → Bool
-is_stopped_for_good book sender reference receiver amount due =
-    list_any (λ (row : Bool × OwnReply). row.0) (lasting_tests book sender reference receiver amount due)
+abbrev pub is_stopped_for_good : Book → List ℕ → NewOrder → Bool
+is_stopped_for_good book sender new_order =
+    list_any (λ (row : Bool × OwnReply). row.0) (lasting_tests book sender new_order)
 
 -- the test of the full queue holds, which comes last
-abbrev pub is_queue_full : Book → List ℕ → ℕ → Option ℕ → Bool
-is_queue_full book sender amount due =
-    not (settles_now book sender amount due) && nat_le LONGEST_QUEUE (length (waiting book sender))
+abbrev pub is_queue_full : Book → List ℕ → NewOrder → Bool
+is_queue_full book sender new_order =
+    not (settles_now book sender new_order) && nat_le LONGEST_QUEUE (length (waiting book sender))
 
 -- A test of the order holds that holds on, so that it changes nothing. That of the full queue is one where no
 -- resolution makes room.
-abbrev pub IsStopped : Book → List ℕ → List ℕ → List ℕ → ℕ → Option ℕ → Type 0
-IsStopped book sender reference receiver amount due =
-    (is_stopped_for_good book sender reference receiver amount due ≡ true)
-    ⊎ ((is_automatic book.day ≡ false) × (is_queue_full book sender amount due ≡ true))
+abbrev pub IsStopped : Book → List ℕ → NewOrder → Type 0
+IsStopped book sender new_order =
+    (is_stopped_for_good book sender new_order ≡ true)
+    ⊎ ((is_automatic book.day ≡ false) × (is_queue_full book sender new_order ≡ true))
 
 -- all tests, of which the last is apart
 any_test : (tests : List (Bool × OwnReply)) (full : Bool)
@@ -171,10 +173,14 @@ settled_before old new sender amount f plain e =
     and_from _ _ (empty_before (queue old sender) (queue new sender) none.queued parts.0)
     (covered_before (floor old sender) (balance old sender) (balance new sender) amount none.cover cover)
 
-now_before : (old new : Book) (sender : List ℕ) (amount : ℕ) (due : Option ℕ) → Follows sender old new
-    → is_automatic old.day ≡ false → settles_now new sender amount due ≡ true → settles_now old sender amount due ≡ true
-now_before old new sender amount None f plain e = settled_before old new sender amount f plain e
-now_before old new sender amount (Some due) f plain e = e
+now_before : (old new : Book) (sender : List ℕ) (new_order : NewOrder) → Follows sender old new
+    → is_automatic old.day ≡ false → settles_now new sender new_order ≡ true → settles_now old sender new_order ≡ true
+now_before old new sender new_order f plain = by new_order.due
+  where
+    by : (due : Option ℕ) → settles_now new sender (with_due new_order due) ≡ true
+        → settles_now old sender (with_due new_order due) ≡ true
+    by None e = settled_before old new sender new_order.amount f plain e
+    by (Some due) e = e
 
 not_now : (a b : Bool) → (b ≡ true → a ≡ true) → not a ≡ true → not b ≡ true
 not_now a false f e = refl
@@ -186,39 +192,39 @@ same_early : (old new : Book) (due : Option ℕ) → new.day ≡ old.day
 same_early old new None same = refl
 same_early old new (Some due) same = λ i. not (is_later due (same i).date)
 
-lasts : (old new : Book) (sender reference receiver : List ℕ) (amount : ℕ) (due : Option ℕ) → Follows sender old new
-    → is_stopped_for_good old sender reference receiver amount due ≡ true
-    → is_stopped_for_good new sender reference receiver amount due ≡ true
-lasts old new sender reference receiver amount due f =
+lasts : (old new : Book) (sender : List ℕ) (new_order : NewOrder) → Follows sender old new
+    → is_stopped_for_good old sender new_order ≡ true
+    → is_stopped_for_good new sender new_order ≡ true
+lasts old new sender new_order f =
     or_weaker _ _ _ _ (λ e. ap not (same_participant old new sender f.participants) ∙ e)
-    (or_weaker _ _ _ _ (recorded_kept old new (PlaceOrder sender reference receiver amount due) f.kept)
-    (or_weaker _ _ _ _ (λ e. let o = there (order_named old sender reference) e
-    in ap is_some (f.kept.orders sender reference o.0 o.1).1)
+    (or_weaker _ _ _ _ (recorded_kept old new (PlaceOrder sender new_order) f.kept)
+    (or_weaker _ _ _ _ (λ e. let o = there (order_named old sender new_order.reference) e
+    in ap is_some (f.kept.orders sender new_order.reference o.0 o.1).1)
     (or_weaker _ _ _ _ (λ e. (λ i. not (is_open (f.day i).phase)) ∙ e)
-    (or_weaker _ _ _ _ (λ e. ap not (same_participant old new receiver f.participants) ∙ e)
+    (or_weaker _ _ _ _ (λ e. ap not (same_participant old new new_order.receiver f.participants) ∙ e)
     (or_weaker _ _ _ _ (λ e. e)
-    (or_weaker _ _ _ _ (λ e. same_early old new due f.day ∙ e)
+    (or_weaker _ _ _ _ (λ e. same_early old new new_order.due f.day ∙ e)
     (or_weaker _ _ _ _ (λ e. e)
     (or_weaker _ _ _ _ (more_orders (length old.orders) (length new.orders) f.orders)
     (λ e. e)))))))))
 
-stays_full : (old new : Book) (sender : List ℕ) (amount : ℕ) (due : Option ℕ) → Follows sender old new
-    → is_automatic old.day ≡ false → is_queue_full old sender amount due ≡ true
-    → is_queue_full new sender amount due ≡ true
-stays_full old new sender amount due f plain e =
-    let parts = and_parts (not (settles_now old sender amount due))
+stays_full : (old new : Book) (sender : List ℕ) (new_order : NewOrder) → Follows sender old new
+    → is_automatic old.day ≡ false → is_queue_full old sender new_order ≡ true
+    → is_queue_full new sender new_order ≡ true
+stays_full old new sender new_order f plain e =
+    let parts = and_parts (not (settles_now old sender new_order))
     (nat_le LONGEST_QUEUE (length (waiting old sender))) e in
-    and_from _ _ (not_now _ _ (now_before old new sender amount due f plain) parts.0)
+    and_from _ _ (not_now _ _ (now_before old new sender new_order f plain) parts.0)
     (more_waiting (length (waiting old sender)) (length (waiting new sender))
     (f.plain plain).waiting parts.1)
 
-stopped_later : (old new : Book) (sender reference receiver : List ℕ) (amount : ℕ) (due : Option ℕ)
-    → Follows sender old new → IsStopped old sender reference receiver amount due
-    → IsStopped new sender reference receiver amount due
-stopped_later old new sender reference receiver amount due f (inl e) =
-    inl (lasts old new sender reference receiver amount due f e)
-stopped_later old new sender reference receiver amount due f (inr e) =
-    inr ((λ i. is_automatic (f.day i)) ∙ e.0, stays_full old new sender amount due f e.0 e.1)
+stopped_later : (old new : Book) (sender : List ℕ) (new_order : NewOrder)
+    → Follows sender old new → IsStopped old sender new_order
+    → IsStopped new sender new_order
+stopped_later old new sender new_order f (inl e) =
+    inl (lasts old new sender new_order f e)
+stopped_later old new sender new_order f (inr e) =
+    inr ((λ i. is_automatic (f.day i)) ∙ e.0, stays_full old new sender new_order f e.0 e.1)
 
 -- ---- one order
 
@@ -227,50 +233,51 @@ either a b (inl e) = rw e refl
 either true b (inr e) = refl
 either false b (inr e) = e
 
-one_holds : (book : Book) (sender reference receiver : List ℕ) (amount : ℕ) (due : Option ℕ)
-    → IsStopped book sender reference receiver amount due
-    → (is_stopped_for_good book sender reference receiver amount due ≡ true)
-    ⊎ (is_queue_full book sender amount due ≡ true)
-one_holds book sender reference receiver amount due (inl e) = inl e
-one_holds book sender reference receiver amount due (inr e) = inr e.1
+one_holds : (book : Book) (sender : List ℕ) (new_order : NewOrder)
+    → IsStopped book sender new_order
+    → (is_stopped_for_good book sender new_order ≡ true)
+    ⊎ (is_queue_full book sender new_order ≡ true)
+one_holds book sender new_order (inl e) = inl e
+one_holds book sender new_order (inr e) = inr e.1
 
 -- it does not act
-own_stays : (old new : Book) (sender reference receiver : List ℕ) (amount : ℕ) (due : Option ℕ) (reply : OwnReply)
-    → IsStopped old sender reference receiver amount due
-    → OwnStep old (PlaceOrder sender reference receiver amount due) reply new → is_done reply ≡ false
+own_stays : (old new : Book) (sender : List ℕ) (new_order : NewOrder) (reply : OwnReply)
+    → IsStopped old sender new_order
+    → OwnStep old (PlaceOrder sender new_order) reply new → is_done reply ≡ false
 unfolding order
-own_stays old new sender reference receiver amount due reply stopped s =
+own_stays old new sender new_order reply stopped s =
     ap (λ (o : Outcome). is_done o.reply) s ∙ some_refuses old _ _
     (refl, (not_accepted_order _, (refl, (refl, (refl, (refl, (refl, (refl, (refl, (refl, tt))))))))))
-    (any_test (lasting_tests old sender reference receiver amount due) (is_queue_full old sender amount due)
-    ∙ either (is_stopped_for_good old sender reference receiver amount due) (is_queue_full old sender amount due)
-    (one_holds old sender reference receiver amount due stopped))
+    (any_test (lasting_tests old sender new_order) (is_queue_full old sender new_order)
+    ∙ either (is_stopped_for_good old sender new_order) (is_queue_full old sender new_order)
+    (one_holds old sender new_order stopped))
 
-stays : IdleLeavesTheBook → (old new : Book) (sender reference receiver : List ℕ) (amount : ℕ) (due : Option ℕ)
-    (reply : Reply) → IsStopped old sender reference receiver amount due
-    → Step old (PlaceOrder sender reference receiver amount due) reply new → new ≡ old
-stays leaves old new sender reference receiver amount due reply stopped s =
-    idle leaves old new (PlaceOrder sender reference receiver amount due) reply s
-    (own_stays old s.0.book sender reference receiver amount due s.0.reply stopped s.1)
+stays : IdleLeavesTheBook → (old new : Book) (sender : List ℕ) (new_order : NewOrder)
+    (reply : Reply) → IsStopped old sender new_order
+    → Step old (PlaceOrder sender new_order) reply new → new ≡ old
+stays leaves old new sender new_order reply stopped s =
+    idle leaves old new (PlaceOrder sender new_order) reply s
+    (own_stays old s.0.book sender new_order s.0.reply stopped s.1)
 
 -- where no other test holds, the full queue is what it is answered
-own_full : (old new : Book) (sender reference receiver : List ℕ) (amount : ℕ) (due : Option ℕ) (reply : OwnReply)
-    → is_stopped_for_good old sender reference receiver amount due ≡ false
-    → is_queue_full old sender amount due ≡ true
-    → OwnStep old (PlaceOrder sender reference receiver amount due) reply new → reply ≡ Err QueueFull
+own_full : (old new : Book) (sender : List ℕ) (new_order : NewOrder) (reply : OwnReply)
+    → is_stopped_for_good old sender new_order ≡ false
+    → is_queue_full old sender new_order ≡ true
+    → OwnStep old (PlaceOrder sender new_order) reply new → reply ≡ Err QueueFull
 unfolding order
-own_full old new sender reference receiver amount due reply lasting full s = ap (λ (o : Outcome). o.reply)
-    (s ∙ last_holds old (lasting_tests old sender reference receiver amount due)
-    (is_queue_full old sender amount due) (Err QueueFull) _ lasting full)
+own_full old new sender new_order reply lasting full s = ap (λ (o : Outcome). o.reply)
+    (s ∙ last_holds old (lasting_tests old sender new_order)
+    (is_queue_full old sender new_order) (Err QueueFull) _ lasting full)
 
-own_acts : (old new : Book) (sender reference receiver : List ℕ) (amount : ℕ) (due : Option ℕ) (reply : OwnReply)
-    → is_stopped_for_good old sender reference receiver amount due ≡ false
-    → is_queue_full old sender amount due ≡ false
-    → OwnStep old (PlaceOrder sender reference receiver amount due) reply new
-    → record { reply = reply; book = new } ≡ takes_due old (new_order old sender reference receiver amount due) due
+own_acts : (old new : Book) (sender : List ℕ) (new_order : NewOrder) (reply : OwnReply)
+    → is_stopped_for_good old sender new_order ≡ false
+    → is_queue_full old sender new_order ≡ false
+    → OwnStep old (PlaceOrder sender new_order) reply new
+    → record { reply = reply; book = new } ≡ takes_due old (taken_order old sender new_order)
+    new_order.due
 unfolding order
-own_acts old new sender reference receiver amount due reply lasting full s = s ∙ none_holds old _ _
-    (any_test (lasting_tests old sender reference receiver amount due) (is_queue_full old sender amount due)
+own_acts old new sender new_order reply lasting full s = s ∙ none_holds old _ _
+    (any_test (lasting_tests old sender new_order) (is_queue_full old sender new_order)
     ∙ rw (lasting, full) refl)
 
 -- a resolution restates orders, and adds none
@@ -303,49 +310,49 @@ plain_step false done automatic e = refl
 
 module _ (joins : OrdersMove) (settles : SettlingMoves) (sounds : KeepsSoundness) (leaves : IdleLeavesTheBook) where
   -- an order is stopped after it, and what came before follows
-  after_order : (old new : Book) (sender reference receiver : List ℕ) (amount : ℕ) (due : Option ℕ) (reply : Reply)
+  after_order : (old new : Book) (sender : List ℕ) (new_order : NewOrder) (reply : Reply)
       → IsSound old → (is_automatic old.day ≡ true → IsNotFull reply)
-      → Step old (PlaceOrder sender reference receiver amount due) reply new
-      → IsStopped new sender reference receiver amount due × Follows sender old new
-  after_order old new sender reference receiver amount due reply h room s =
-      by (is_stopped_for_good old sender reference receiver amount due) refl (is_queue_full old sender amount due) refl
+      → Step old (PlaceOrder sender new_order) reply new
+      → IsStopped new sender new_order × Follows sender old new
+  after_order old new sender new_order reply h room s =
+      by (is_stopped_for_good old sender new_order) refl (is_queue_full old sender new_order) refl
     where
       command : Command
-      command = PlaceOrder sender reference receiver amount due
+      command = PlaceOrder sender new_order
 
-      unchanged : IsStopped old sender reference receiver amount due
-          → IsStopped new sender reference receiver amount due × Follows sender old new
+      unchanged : IsStopped old sender new_order
+          → IsStopped new sender new_order × Follows sender old new
       unchanged stopped =
-          let same = stays leaves old new sender reference receiver amount due reply stopped s in (
-            subst (λ book. IsStopped book sender reference receiver amount due) (sym same) stopped,
+          let same = stays leaves old new sender new_order reply stopped s in (
+            subst (λ book. IsStopped book sender new_order) (sym same) stopped,
             subst (Follows sender old) (sym same) (follows_itself sender old),
           )
 
-      full_now : is_stopped_for_good old sender reference receiver amount due ≡ false
-          → is_queue_full old sender amount due ≡ true → (b : Bool) → is_automatic old.day ≡ b
-          → IsStopped old sender reference receiver amount due
+      full_now : is_stopped_for_good old sender new_order ≡ false
+          → is_queue_full old sender new_order ≡ true → (b : Bool) → is_automatic old.day ≡ b
+          → IsStopped old sender new_order
       full_now e k false plain = inr (plain, k)
       full_now e k true automatic = absurd (room automatic (refused_so old new command reply QueueFull s
-          (own_full old s.0.book sender reference receiver amount due s.0.reply e k s.1)))
+          (own_full old s.0.book sender new_order s.0.reply e k s.1)))
 
-      by : (lasting : Bool) → is_stopped_for_good old sender reference receiver amount due ≡ lasting
-          → (full : Bool) → is_queue_full old sender amount due ≡ full
-          → IsStopped new sender reference receiver amount due × Follows sender old new
+      by : (lasting : Bool) → is_stopped_for_good old sender new_order ≡ lasting
+          → (full : Bool) → is_queue_full old sender new_order ≡ full
+          → IsStopped new sender new_order × Follows sender old new
       by true e full k = unchanged (inl e)
       by false e true k = unchanged (full_now e k (is_automatic old.day) refl)
       by false e false k =
-          let took = own_acts old s.0.book sender reference receiver amount due s.0.reply e k s.1 in
+          let took = own_acts old s.0.book sender new_order s.0.reply e k s.1 in
           let done = ap (λ (o : Outcome). is_done o.reply) took
-          ∙ takes_due_accepted old (new_order old sender reference receiver amount due) due in
-          let known = ordered_known old s.0.book s.0.reply sender reference receiver amount due h done s.1 in
+          ∙ takes_due_accepted old (taken_order old sender new_order) new_order.due in
+          let known = ordered_known old s.0.book s.0.reply sender new_order h done s.1 in
           let book = ap (λ (o : Outcome). o.book) took in
-          let leaves = takes_due_leaves old (new_order old sender reference receiver amount due) due in
+          let leaves = takes_due_leaves old (taken_order old sender new_order) new_order.due in
           let left = left_so old new command reply s in
           let long = ends_long (is_followed command s.0) new s.0 reply s.2 in
           let day : s.0.book.day ≡ old.day = (λ i. (book i).day) ∙ leaves.1 in
           let recorded = recorded_kept s.0.book new command (kept_after sounds old new command reply h s)
-          (ap (λ found. is_same_order found receiver amount due) known.1
-          ∙ order_same known.0 receiver amount due known.2 known.3 known.6) in (
+          (ap (λ found. is_same_order found new_order) known.1
+          ∙ order_same known.0 new_order known.2 known.3 known.6) in (
             inl (or_second _ _ _ recorded),
             record {
               participants = left.1 ∙ (λ i. (book i).participants) ∙ leaves.0;
@@ -357,12 +364,12 @@ module _ (joins : OrdersMove) (settles : SettlingMoves) (sounds : KeepsSoundness
                   let same = (not_followed old new command reply s (plain_step (may_free command) (is_done s.0.reply)
                   (is_automatic s.0.book.day) ((λ i. is_automatic (day i)) ∙ plain))).0 ∙ book in
                   let more = subst (Grows sender old) (sym same)
-                  (grows old sender reference receiver amount due sender h.orders_numbered) in
+                  (grows old sender new_order new_order.due sender h.orders_numbered) in
                   record {
                     queued = more.0;
                     waiting = more.1;
                     cover = subst (λ (b : Book). balance b sender ≤ℤ balance old sender) (sym same)
-                        (covers_less joins settles old sender reference receiver amount h.orders_numbered due);
+                        (covers_less joins settles old sender new_order h.orders_numbered new_order.due);
                   };
               kept = step_kept sounds old new command reply h s;
             },
@@ -372,14 +379,14 @@ module _ (joins : OrdersMove) (settles : SettlingMoves) (sounds : KeepsSoundness
 
 -- the command is an order of this sender that a test stops
 abbrev Stopped : List ℕ → Book → Command → Type 0
-Stopped sender book (PlaceOrder other reference receiver amount due) = (other ≡ sender)
-    × IsStopped book other reference receiver amount due
+Stopped sender book (PlaceOrder other new_order) = (other ≡ sender)
+    × IsStopped book other new_order
 Stopped sender book other = ⊥
 
 stopped_after : (sender : List ℕ) (old new : Book) (command : Command) → Follows sender old new
     → Stopped sender old command → Stopped sender new command
-stopped_after sender old new (PlaceOrder other reference receiver amount due) f h =
-    (h.0, stopped_later old new other reference receiver amount due (subst (λ s. Follows s old new) (sym h.0) f) h.1)
+stopped_after sender old new (PlaceOrder other new_order) f h =
+    (h.0, stopped_later old new other new_order (subst (λ s. Follows s old new) (sym h.0) f) h.1)
 stopped_after sender old new other f h = absurd h
 
 module _ (joins : OrdersMove) (settles : SettlingMoves) (own : KeepsSoundness) (leaves : IdleLeavesTheBook)
@@ -387,8 +394,8 @@ module _ (joins : OrdersMove) (settles : SettlingMoves) (own : KeepsSoundness) (
   after_one : (old new : Book) (command : Command) (reply : Reply) → IsSound old → IsOrderOf sender command
       → (is_automatic old.day ≡ true → IsNotFull reply) → Step old command reply new
       → Stopped sender new command × Follows sender old new
-  after_one old new (PlaceOrder other reference receiver amount due) reply h is room s =
-      let one = after_order joins settles own leaves old new other reference receiver amount due reply h room s in
+  after_one old new (PlaceOrder other new_order) reply h is room s =
+      let one = after_order joins settles own leaves old new other new_order reply h room s in
       ((is, one.0), subst (λ s. Follows s old new) is one.1)
   after_one old new other reply h is room s = absurd is
 
@@ -408,8 +415,8 @@ module _ (joins : OrdersMove) (settles : SettlingMoves) (own : KeepsSoundness) (
 
 stays_one : IdleLeavesTheBook → (sender : List ℕ) (old new : Book) (command : Command) (reply : Reply)
     → Stopped sender old command → Step old command reply new → new ≡ old
-stays_one leaves sender old new (PlaceOrder other reference receiver amount due) reply h s =
-    stays leaves old new other reference receiver amount due reply h.1 s
+stays_one leaves sender old new (PlaceOrder other new_order) reply h s =
+    stays leaves old new other new_order reply h.1 s
 stays_one leaves sender old new other reply h s = absurd h
 
 stays_all : IdleLeavesTheBook → (sender : List ℕ) (old new : Book) (commands : List Command) (replies : List Reply)

@@ -5,6 +5,7 @@ use Rattle.std.proofs.lemmas.Bool.{not-false, and_parts}
 use Rattle.std.proofs.lemmas.List.{length-map}
 use Rattle.std.specs.List.{range_with_len}
 use Rattle.rtgs_book.specs.declared.book.Book.{Book}
+use Rattle.rtgs_book.specs.declared.new_order.NewOrder.{NewOrder}
 use Rattle.rtgs_book.specs.declared.order.Order.{Order}
 use Rattle.rtgs_book.specs.declared.order_state.OrderState.TheVariants.{Settled, Withdrawn, Rejected}
 use Rattle.rtgs_book.specs.declared.command.Command.{Command}
@@ -12,7 +13,7 @@ use Rattle.rtgs_book.specs.declared.command.Command.TheVariants.{Add, SetCredit,
 use Rattle.rtgs_book.specs.declared.command.Command.TheVariants.{Withdraw, Resolve, CutOff, CloseDay}
 use Rattle.rtgs_book.specs.Books.{is_queued, is_waiting, is_empty}
 use Rattle.rtgs_book.specs.Choice.{is_chosen, chosen, Choice}
-use Rattle.rtgs_book.specs.Commands.{add, with_participant, set_credit, with_credit, post, new_order, with_order}
+use Rattle.rtgs_book.specs.Commands.{add, with_participant, set_credit, with_credit, post, taken_order, with_order}
 use Rattle.rtgs_book.specs.Commands.{has_number, takes, takes_due, settles_at_once, order, is_waiting_order, number_of}
 use Rattle.rtgs_book.specs.Commands.{with_state, let_in}
 use Rattle.rtgs_book.specs.Commands.{withdraw, open_day, cut_off, resolve, close_day}
@@ -23,6 +24,7 @@ use Rattle.rtgs_book.specs.Soundness.{OrdersAreNumbered, IsSound}
 use Rattle.rtgs_book.specs.Step.{OwnStep, Ends, Step, is_followed}
 use Rattle.rtgs_laws.specs.Through.{GoesThrough}
 use Rattle.rtgs_laws.specs.repeats.Kept.{AreKept}
+use Rattle.rtgs_laws.proofs.NewOrders.{with_due}
 use Rattle.rtgs_laws.proofs.repeats.Finds.{find_left, only_one}
 use Rattle.rtgs_laws.proofs.repeats.Kept.{WaitingAlone, queued_waits, orders_same, orders_grown, orders_restated}
 use Rattle.rtgs_laws.proofs.repeats.Kept.{orders_entered, none_numbered, by_settling, participants_same}
@@ -52,29 +54,29 @@ kept_order book o = kept_by book _ (participants_same book.participants) (λ ref
 
 -- ---- an order that is taken, and one that is withdrawn
 
-module _ (book : Book) (sender reference receiver : List ℕ) (amount : ℕ) (h : OrdersAreNumbered book) where
+module _ (book : Book) (sender : List ℕ) (new_order : NewOrder) (h : OrdersAreNumbered book) where
   pub one_new : WaitingAlone (has_number (length book.orders + 1))
-      (book.orders ++ new_order book sender reference receiver amount None ∷ [])
+      (book.orders ++ taken_order book sender (with_due new_order None) ∷ [])
   one_new = all_push (λ o. has_number (length book.orders + 1) o ≡ true → is_waiting o ≡ true) book.orders
-      (new_order book sender reference receiver amount None)
+      (taken_order book sender (with_due new_order None))
       (all_weaker (λ o. has_number (length book.orders + 1) o ≡ false)
       (λ o. has_number (length book.orders + 1) o ≡ true → is_waiting o ≡ true)
       (λ o none e. absurd (true≢false (sym e ∙ none))) book.orders (none_numbered book h)) (λ _. refl)
 
   -- from the order that joined its queue, or is held
-  pub kept_joined : (due : Option ℕ) → AreKept (with_order book (new_order book sender reference receiver amount due))
-      (takes_due book (new_order book sender reference receiver amount due) due).book
+  pub kept_joined : (due : Option ℕ) → AreKept (with_order book (taken_order book sender (with_due new_order due)))
+      (takes_due book (taken_order book sender (with_due new_order due)) due).book
   unfolding takes
   kept_joined None =
-      let joined = with_order book (new_order book sender reference receiver amount None) in
-      choose_book (AreKept joined) (settles_at_once book sender amount) _ _
+      let joined = with_order book (taken_order book sender (with_due new_order None)) in
+      choose_book (AreKept joined) (settles_at_once book sender new_order.amount) _ _
       (kept_settle joined (has_number (length book.orders + 1)) one_new) (kept_itself joined)
-  kept_joined (Some due) = kept_itself (with_order book (new_order book sender reference receiver amount (Some due)))
+  kept_joined (Some due) = kept_itself (with_order book (taken_order book sender (with_due new_order (Some due))))
 
   kept_taken : (due : Option ℕ)
-      → AreKept book (takes_due book (new_order book sender reference receiver amount due) due).book
-  kept_taken due = kept_through book (with_order book (new_order book sender reference receiver amount due)) _
-      (kept_order book (new_order book sender reference receiver amount due)) (kept_joined due)
+      → AreKept book (takes_due book (taken_order book sender (with_due new_order due)) due).book
+  kept_taken due = kept_through book (with_order book (taken_order book sender (with_due new_order due))) _
+      (kept_order book (taken_order book sender (with_due new_order due))) (kept_joined due)
 
 pub withdrawn_waits : (book : Book) (sender reference : List ℕ) (o : Order) → OrdersAreNumbered book
     → order_named book sender reference ≡ Some o → is_waiting o ≡ true → WaitingAlone (has_number o.number) book.orders
@@ -124,9 +126,9 @@ own_step_kept old new (Post code reference cents) reply h e = kept_as old new re
 own_step_kept old new (OpenDay date automatic) reply h e = kept_as old new reply _ e
     (after_tests (AreKept old) old _ _ (kept_itself old) (λ _. kept_by old _ (participants_same old.participants)
     (λ reference p e. e) (orders_entered date old.orders)))
-own_step_kept old new (PlaceOrder sender reference receiver amount due) reply h e =
+own_step_kept old new (PlaceOrder sender new_order) reply h e =
     kept_as old new reply _ e (after_tests (AreKept old) old _ _ (kept_itself old)
-    (λ _. kept_taken old sender reference receiver amount h.orders_numbered due))
+    (λ _. kept_taken old sender new_order h.orders_numbered new_order.due))
 own_step_kept old new (Withdraw sender reference) reply h e = kept_as old new reply _ e
     (kept_withdrawn old sender reference h.orders_numbered)
 own_step_kept old new Resolve reply h e = kept_as old new reply _ e.2

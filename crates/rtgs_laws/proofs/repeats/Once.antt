@@ -12,7 +12,7 @@ use Rattle.rtgs_book.specs.declared.posting.Posting.{Posting}
 use Rattle.rtgs_book.specs.declared.order.Order.{Order}
 use Rattle.rtgs_book.specs.declared.command.Command.{Command}
 use Rattle.rtgs_book.specs.declared.command.Command.TheVariants.{Post, Order as PlaceOrder}
-use Rattle.rtgs_book.specs.Commands.{post, is_same_posting, order, is_same_order, is_same_due}
+use Rattle.rtgs_book.specs.Commands.{post, is_same_posting, order, is_same_order, says_the_same, is_same_due}
 use Rattle.rtgs_book.specs.Lookup.{order_named, posting_named}
 use Rattle.rtgs_book.specs.Outcome.{OwnReply, Reply, Outcome, is_done}
 use Rattle.rtgs_book.specs.Run.{Run, is_accepted, is_same_entry, is_recorded, once_after}
@@ -42,7 +42,7 @@ book_as old new reply outcome e same = ap (λ (o : Outcome). o.book) e ∙ same
 own_recorded : (old new : Book) (command : Command) (reply : OwnReply) → is_recorded old command ≡ true
     → OwnStep old command reply new → is_done reply ≡ false
 unfolding post order
-own_recorded old new (PlaceOrder sender reference receiver amount due) reply e s =
+own_recorded old new (PlaceOrder sender new_order) reply e s =
     ap (λ (o : Outcome). is_done o.reply) s ∙ some_refuses old _ _
     (refl, (not_accepted_order _, (refl, (refl, (refl, (refl, (refl, (refl, (refl, (refl, tt))))))))))
     (or_second _ _ _ e)
@@ -60,18 +60,18 @@ recorded_idle leaves old new command reply e s =
 -- what the book has it keeps
 pub recorded_kept : (old new : Book) (command : Command) → AreKept old new → is_recorded old command ≡ true
     → is_recorded new command ≡ true
-recorded_kept old new (PlaceOrder sender reference receiver amount due) kept e =
-    by (order_named old sender reference) refl e
+recorded_kept old new (PlaceOrder sender new_order) kept e =
+    by (order_named old sender new_order.reference) refl e
   where
-    by : (found : Option Order) → order_named old sender reference ≡ found
-        → is_same_order found receiver amount due ≡ true
-        → is_same_order (order_named new sender reference) receiver amount due ≡ true
+    by : (found : Option Order) → order_named old sender new_order.reference ≡ found
+        → is_same_order found new_order ≡ true
+        → is_same_order (order_named new sender new_order.reference) new_order ≡ true
     by None f k = absurd (true≢false (sym k))
     by (Some o) f k =
-        let later = kept.orders sender reference o f in
-        ap (λ found. is_same_order found receiver amount due) later.1
-        ∙ (λ i. bytes_eq (later.2.receiver i) receiver && (later.2.amount i == amount)
-        && is_same_due (later.2.due i) due) ∙ k
+        let later = kept.orders sender new_order.reference o f in
+        ap (λ found. is_same_order found new_order) later.1
+        ∙ (λ i. bytes_eq (later.2.receiver i) new_order.receiver && (later.2.amount i == new_order.amount)
+        && is_same_due (later.2.due i) new_order.due) ∙ k
 recorded_kept old new (Post code reference cents) kept e = by (posting_named old reference) refl e
   where
     by : (found : Option Posting) → posting_named old reference ≡ found → is_same_posting found code cents ≡ true
@@ -91,7 +91,7 @@ number_is : (a b : ℕ) → (a == b) ≡ true → a ≡ b
 number_is a b e = grind (arith, nat_tests)
 
 abbrev is_entry : Command → Bool
-is_entry (PlaceOrder sender reference receiver amount due) = true
+is_entry (PlaceOrder sender new_order) = true
 is_entry (Post code reference cents) = true
 is_entry other = false
 
@@ -101,15 +101,6 @@ all_three true true false e = absurd (true≢false (sym e))
 all_three true false c e = absurd (true≢false (sym e))
 all_three false b c e = absurd (true≢false (sym e))
 
-all_five : (a b c d f : Bool) → (a && b && c && d && f) ≡ true
-    → (a ≡ true) × (b ≡ true) × (c ≡ true) × (d ≡ true) × (f ≡ true)
-all_five true true true true true e = (refl, refl, refl, refl, refl)
-all_five true true true true false e = absurd (true≢false (sym e))
-all_five true true true false f e = absurd (true≢false (sym e))
-all_five true true false d f e = absurd (true≢false (sym e))
-all_five true false c d f e = absurd (true≢false (sym e))
-all_five false b c d f e = absurd (true≢false (sym e))
-
 due_is : (a b : Option ℕ) → is_same_due a b ≡ true → a ≡ b
 due_is None None e = refl
 due_is (Some a) (Some b) e = ap Some (number_is a b e)
@@ -118,14 +109,18 @@ due_is (Some a) None e = absurd (true≢false (sym e))
 
 -- entries with one name and one content are the same
 same_entry : (other one : Command) → is_same_entry other one ≡ true → (other ≡ one) × (is_entry one ≡ true)
-same_entry (PlaceOrder s r to amount due) (PlaceOrder s' r' to' amount' due') e =
-    let p = all_five (bytes_eq s s') (bytes_eq r r') (bytes_eq to to') (amount == amount') (is_same_due due due') e in
+same_entry (PlaceOrder s a) (PlaceOrder s' b) e =
+    let p = all_three (bytes_eq s s') (bytes_eq a.reference b.reference) (says_the_same a b) e in
+    let q = all_three (bytes_eq a.receiver b.receiver) (a.amount == b.amount) (is_same_due a.due b.due) p.2 in
     let sender = (bytes_decides s s').0 p.0 in
-    let reference = (bytes_decides r r').0 p.1 in
-    let receiver = (bytes_decides to to').0 p.2 in
-    let number = number_is amount amount' p.3 in
-    let day = due_is due due' p.4 in
-    ((λ i. PlaceOrder (sender i) (reference i) (receiver i) (number i) (day i)), refl)
+    let reference = (bytes_decides a.reference b.reference).0 p.1 in
+    let receiver = (bytes_decides a.receiver b.receiver).0 q.0 in
+    let number = number_is a.amount b.amount q.1 in
+    let day = due_is a.due b.due q.2 in (
+      (λ i. PlaceOrder (sender i)
+          (record { reference = reference i; receiver = receiver i; amount = number i; due = day i })),
+      refl,
+    )
 same_entry (Post code r cents) (Post code' r' cents') e =
     let p = all_three (bytes_eq code code') (bytes_eq r r') (int_eq cents cents') e in
     let account = (bytes_decides code code').0 p.0 in
@@ -137,9 +132,9 @@ same_entry other one e = absurd (true≢false (sym e))
 -- an Order or Post that was accepted is had
 own_accepted_recorded : (old new : Book) (reply : OwnReply) (one : Command) → IsSound old → is_done reply ≡ true
     → OwnStep old one reply new → is_entry one ≡ true → is_recorded new one ≡ true
-own_accepted_recorded old new reply (PlaceOrder sender reference receiver amount due) h accepted s e =
-    let p = ordered_known old new reply sender reference receiver amount due h accepted s in
-    ap (λ found. is_same_order found receiver amount due) p.1 ∙ order_same p.0 receiver amount due p.2 p.3 p.6
+own_accepted_recorded old new reply (PlaceOrder sender new_order) h accepted s e =
+    let p = ordered_known old new reply sender new_order h accepted s in
+    ap (λ found. is_same_order found new_order) p.1 ∙ order_same p.0 new_order p.2 p.3 p.6
 own_accepted_recorded old new reply (Post code reference cents) h accepted s e =
     let p = posted_known old new reply code reference cents accepted s in
     ap (λ found. is_same_posting found code cents) p.1 ∙ posting_same p.0 code cents p.2 p.3

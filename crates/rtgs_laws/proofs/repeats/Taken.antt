@@ -8,6 +8,7 @@ use Rattle.std.proofs.lemmas.List.Elements.{filter-append}
 use Rattle.std.specs.List.{AllByRecursion}
 use Rattle.std.specs.Str.{bytes_eq}
 use Rattle.rtgs_book.specs.declared.book.Book.{Book}
+use Rattle.rtgs_book.specs.declared.new_order.NewOrder.{NewOrder}
 use Rattle.rtgs_book.specs.declared.order.Order.{Order}
 use Rattle.rtgs_book.specs.declared.mark.Mark.{Mark}
 use Rattle.rtgs_book.specs.declared.order_state.OrderState.{OrderState}
@@ -15,7 +16,7 @@ use Rattle.rtgs_book.specs.declared.order_state.OrderState.TheVariants.{Settled}
 use Rattle.rtgs_book.specs.Books.{is_queued, is_waiting, is_settled}
 use Rattle.rtgs_book.specs.Balance.{balance, gain}
 use Rattle.rtgs_book.specs.IntSum.{int_sum_by}
-use Rattle.rtgs_book.specs.Commands.{settles_at_once, new_order, with_order, has_number, takes, takes_due}
+use Rattle.rtgs_book.specs.Commands.{settles_at_once, taken_order, with_order, has_number, takes, takes_due}
 use Rattle.rtgs_book.specs.Queue.{queue, waiting}
 use Rattle.rtgs_book.specs.Outcome.{Outcome, is_done}
 use Rattle.rtgs_book.specs.Settle.{restated, settle, next_mark}
@@ -24,6 +25,7 @@ use Rattle.rtgs_lists.proofs.Codes.{bytes_eq_self}
 use Rattle.rtgs_lists.proofs.Filters.{filter_nothing}
 use Rattle.rtgs_lists.proofs.Lists.{all_push, all_weaker}
 use Rattle.rtgs_lists.proofs.Numbers.{eq_self}
+use Rattle.rtgs_laws.proofs.NewOrders.{with_due}
 use Rattle.rtgs_laws.proofs.repeats.Kept.{none_numbered, by_settling}
 use Rattle.rtgs_laws.proofs.repeats.Passing.{choose, choose_book}
 
@@ -109,19 +111,19 @@ grows_settled book o marks state code none = (
   restated_grows (λ (x : Order). is_waiting x && bytes_eq x.sender code) book.orders o state none,
 )
 
-pub grows : (book : Book) (sender reference receiver : List ℕ) (amount : ℕ) (due : Option ℕ) (code : List ℕ)
+pub grows : (book : Book) (sender : List ℕ) (new_order : NewOrder) (due : Option ℕ) (code : List ℕ)
     → OrdersAreNumbered book
-    → Grows code book (takes_due book (new_order book sender reference receiver amount due) due).book
+    → Grows code book (takes_due book (taken_order book sender (with_due new_order due)) due).book
 unfolding takes
-grows book sender reference receiver amount None code h =
-    let new = new_order book sender reference receiver amount None in
-    choose_book (Grows code book) (settles_at_once book sender amount) _ _
+grows book sender new_order None code h =
+    let new = taken_order book sender (with_due new_order None) in
+    choose_book (Grows code book) (settles_at_once book sender new_order.amount) _ _
     (by_settling (Grows code book) (with_order book new) (has_number (length book.orders + 1))
     (grows_joined book new code)
     (λ marks. grows_settled book new marks (Settled (next_mark (with_order book new))) code (none_numbered book h)))
     (grows_joined book new code)
-grows book sender reference receiver amount (Some due) code h =
-    grows_joined book (new_order book sender reference receiver amount (Some due)) code
+grows book sender new_order (Some due) code h =
+    grows_joined book (taken_order book sender (with_due new_order (Some due))) code
 
 -- ---- the balance of the sender
 
@@ -146,34 +148,34 @@ no_gain o = rw (bytes_eq_self o.sender) (by (bytes_eq o.receiver o.sender))
     by true = omega (arith, ints)
     by false = omega (arith, ints)
 
-module _ (joins : OrdersMove) (settles : SettlingMoves) (book : Book) (sender reference receiver : List ℕ)
-    (amount : ℕ) (h : OrdersAreNumbered book) where
+module _ (joins : OrdersMove) (settles : SettlingMoves) (book : Book) (sender : List ℕ)
+    (new_order : NewOrder) (h : OrdersAreNumbered book) where
   joined_same : (due : Option ℕ)
-      → balance (with_order book (new_order book sender reference receiver amount due)) sender ≤ℤ balance book sender
+      → balance (with_order book (taken_order book sender (with_due new_order due))) sender ≤ℤ balance book sender
   joined_same None =
-      let e = joins book (new_order book sender reference receiver amount None) sender in omega (arith, ints)
+      let e = joins book (taken_order book sender (with_due new_order None)) sender in omega (arith, ints)
   joined_same (Some due) =
-      let e = joins book (new_order book sender reference receiver amount (Some due)) sender in omega (arith, ints)
+      let e = joins book (taken_order book sender (with_due new_order (Some due))) sender in omega (arith, ints)
 
   one_queued : AreQueued (has_number (length book.orders + 1))
-      (book.orders ++ new_order book sender reference receiver amount None ∷ [])
+      (book.orders ++ taken_order book sender (with_due new_order None) ∷ [])
   one_queued = all_push (λ o. has_number (length book.orders + 1) o ≡ true → is_queued o ≡ true) book.orders
-      (new_order book sender reference receiver amount None)
+      (taken_order book sender (with_due new_order None))
       (all_weaker (λ o. has_number (length book.orders + 1) o ≡ false)
       (λ o. has_number (length book.orders + 1) o ≡ true → is_queued o ≡ true)
       (λ o none e. absurd (true≢false (sym e ∙ none))) book.orders (none_numbered book h)) (λ _. refl)
 
   batch_is : filter (has_number (length book.orders + 1))
-      (book.orders ++ new_order book sender reference receiver amount None ∷ [])
-      ≡ new_order book sender reference receiver amount None ∷ []
+      (book.orders ++ taken_order book sender (with_due new_order None) ∷ [])
+      ≡ taken_order book sender (with_due new_order None) ∷ []
   batch_is = filter-append (has_number (length book.orders + 1)) book.orders
-      (new_order book sender reference receiver amount None ∷ [])
+      (taken_order book sender (with_due new_order None) ∷ [])
       ∙ rw (filter_nothing _ book.orders (none_numbered book h), eq_self (length book.orders + 1)) refl
 
-  settled_less : balance (settle (with_order book (new_order book sender reference receiver amount None))
+  settled_less : balance (settle (with_order book (taken_order book sender (with_due new_order None)))
       (has_number (length book.orders + 1))) sender ≤ℤ balance book sender
   settled_less =
-      let new = new_order book sender reference receiver amount None in
+      let new = taken_order book sender (with_due new_order None) in
       let before = joined_same None in
       let less : gain sender new ≤ℤ pos 0 = no_gain new in
       let moved : balance (settle (with_order book new) (has_number (length book.orders + 1))) sender
@@ -183,9 +185,9 @@ module _ (joins : OrdersMove) (settles : SettlingMoves) (book : Book) (sender re
       omega (arith, ints)
 
   pub covers_less : (due : Option ℕ)
-      → balance (takes_due book (new_order book sender reference receiver amount due) due).book sender
+      → balance (takes_due book (taken_order book sender (with_due new_order due)) due).book sender
       ≤ℤ balance book sender
   unfolding takes
-  covers_less None = choose_book (λ b. balance b sender ≤ℤ balance book sender) (settles_at_once book sender amount) _ _
-      settled_less (joined_same None)
+  covers_less None = choose_book (λ b. balance b sender ≤ℤ balance book sender)
+      (settles_at_once book sender new_order.amount) _ _ settled_less (joined_same None)
   covers_less (Some due) = joined_same (Some due)

@@ -10,7 +10,7 @@ use Rattle.rtgs_book.specs.declared.command.Command.TheVariants.{Order}
 
 -- the command is an order of this sender
 abbrev pub IsOrderOf : List ℕ → Command → Type 0
-IsOrderOf sender (Order other reference receiver amount due) = other ≡ sender
+IsOrderOf sender (Order other new_order) = other ≡ sender
 IsOrderOf sender command = ⊥
 
 -- Not refused because the sender's queue was full. On an automatic day a full queue may have room later in a batch.

@@ -14,7 +14,7 @@ use Rattle.rtgs_book.specs.Outcome.{OwnReply, Reply, alone, own_of}
 abbrev pub acts_once : Command → Bool
 acts_once (command.Add code name key) = true
 acts_once (command.Post code reference cents) = true
-acts_once (command.Order sender reference receiver amount due) = true
+acts_once (command.Order sender new_order) = true
 acts_once (command.Withdraw sender reference) = true
 acts_once other = false
 
@@ -37,8 +37,8 @@ abbrev pub IsRepeat : Book → Command → ℕ → Reply → Type 0
 IsRepeat book (command.Add code name key) number reply = reply ≡ alone (Ok (answer.Repeated known.Nothing))
 IsRepeat book (command.Post code reference cents) number reply = reply
     ≡ alone (Ok (answer.Repeated (known.Posting number)))
-IsRepeat book (command.Order sender reference receiver amount due) number reply =
-    (o : Order) × (order_named book sender reference ≡ Some o) × (o.number ≡ number)
+IsRepeat book (command.Order sender new_order) number reply =
+    (o : Order) × (order_named book sender new_order.reference ≡ Some o) × (o.number ≡ number)
     × (reply ≡ alone (Ok (answer.Repeated (known.Order number o.state))))
 IsRepeat book (command.Withdraw sender reference) number reply = reply
     ≡ alone (Ok (answer.Repeated (known.Order number state.Withdrawn)))

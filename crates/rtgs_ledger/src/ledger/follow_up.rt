@@ -234,8 +234,8 @@ fn judge(command: &Command)
         Command::Post { cents, .. } => {
             cents.cents();
         }
-        Command::Order { amount, .. } => {
-            amount.cents();
+        Command::Order { order, .. } => {
+            order.amount.cents();
         }
         _ => {}
     }

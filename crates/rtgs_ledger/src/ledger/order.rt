@@ -1,14 +1,13 @@
 //! Payment orders.
 ghost use Rattle.std.specs.Prelude.{◌≡◌, ◌≤◌, ◌∷◌, [], true, false, Some, IfOk, IfErr};
 ghost use Rattle.std.specs.List.{find};
-ghost use Rattle.std.specs.Prelude.{◌&&◌, ◌==◌, ◌-ℤ◌, int_le, pos, is_none, None, unwrap_or};
-ghost use Rattle.std.specs.Str.{bytes_eq};
+ghost use Rattle.std.specs.Prelude.{◌&&◌, ◌-ℤ◌, int_le, pos, is_none, None, unwrap_or};
 ghost use Rattle.rtgs_money.specs.Amounts.{IsAmount};
 ghost use Rattle.rtgs_book.specs.Balance.{floor_at};
 ghost use Rattle.rtgs_book.specs.Books.{is_empty};
 ghost use Rattle.rtgs_book.specs.Queue.{queued_numbers};
 ghost use Rattle.rtgs_records.specs.accounts.Accounts.{code_of};
-ghost use Rattle.rtgs_book.specs.Commands.{settles_at_once, settles_now, is_same_due, is_due_on_a_weekend};
+ghost use Rattle.rtgs_book.specs.Commands.{as_sent, settles_at_once, settles_now, is_due_on_a_weekend};
 ghost use Rattle.rtgs_book.specs.declared.limits.TheConstants.{LARGEST_NUMBER};
 ghost use Rattle.rtgs_records.specs.accounts.Accounts.{is_of};
 ghost use Rattle.rtgs_book.specs.declared.book.Book.{Book};
@@ -22,10 +21,10 @@ ghost use Rattle.rtgs_ledger.specs.Ordering.{IsTaken, IsDueRefused, is_too_early
 
 use super::Ledger;
 use rtgs_book::{
-    Account, Answer, Change, Command, Known, LARGEST_NUMBER, LONGEST_QUEUE, Mark, Order,
+    Account, Answer, Change, Command, Known, LARGEST_NUMBER, LONGEST_QUEUE, Mark, NewOrder, Order,
     OrderState, Refusal, RowChange, Rows, laws,
 };
-use rtgs_money::{Amount, BusinessDate, Cents, Code, Reference};
+use rtgs_money::{BusinessDate, Cents, Code};
 use rtgs_records::Records;
 use rtgs_records::accounts::sums::{with_less, with_more};
 use rtgs_records::queues::laws::queues_are_of_the_waiting;
@@ -36,30 +35,29 @@ impl Ledger {
     pub(super) fn prepare_order(
         &mut self,
         sender: Code,
-        reference: Reference,
-        receiver: Code,
-        amount: Amount,
-        due: Option<BusinessDate>,
+        order: &NewOrder,
         found: Option<Order>,
     ) -> Result<(Answer, Change), Refusal>
         ensures core { self.new.core ≡ self.old.core }
         ensures room { IfOk result (λ (answer, change). HasRoom self.new change) }
         ensures frees { IfOk result (λ (answer, change). FreesOrders change) }
-        ensures answered { IfOk result (λ (answer, change). CanAnswerByItself
-            (Command.Order sender reference receiver amount due) answer change) }
+        ensures answered { IfOk result (λ (answer, change). CanAnswerByItself (Command.Order sender order.now) answer
+            change) }
         ensures of_the_command { IfErr result (λ refusal. is_of_the_store refusal ≡ false) }
-        ensures prepared { (book : Book) → IsCoreOf book self.old.core → found ≡ order_named book sender reference
+        ensures prepared { (book : Book) → IsCoreOf book self.old.core
+            → found ≡ order_named book sender order.now.reference
             → IfOk result (λ (answer, change). IsPreparedByItself book self.old.core
-            (Command.Order sender reference receiver amount due) answer change) }
-        ensures refused { (book : Book) → IsCoreOf book self.old.core → found ≡ order_named book sender reference
-            → IfErr result (IsRefusedByItself book (Command.Order sender reference receiver amount due)) }
+            (Command.Order sender order.now) answer change) }
+        ensures refused { (book : Book) → IsCoreOf book self.old.core
+            → found ≡ order_named book sender order.now.reference
+            → IfErr result (IsRefusedByItself book (Command.Order sender order.now)) }
     {
         queues_are_of_the_waiting();
         let Some(sending) = self.records.accounts.get(&sender) else {
             return Err(Refusal::UnknownParticipant);
         };
         if let Some(found) = found {
-            if is_same_order(&found, &receiver, amount, &due) {
+            if found.was_sent_as(order) {
                 return Ok(self.repeated(Known::Order {
                     number: found.number,
                     state: found.state,
@@ -70,27 +68,25 @@ impl Ledger {
         let Some(date) = self.records.open_date() else {
             return Err(Refusal::NotOpen);
         };
-        let Some(receiving) = self.records.accounts.get(&receiver) else {
+        let Some(receiving) = self.records.accounts.get(&order.receiver) else {
             return Err(Refusal::UnknownReceiver);
         };
-        if sender == receiver {
+        if sender == order.receiver {
             return Err(Refusal::SameParty);
         }
-        check_due(&self.records, &due)?;
+        check_due(&self.records, &order.due)?;
         if self.records.orders.next() > LARGEST_NUMBER as u64 {
             return Err(Refusal::NumbersUsedUp);
         }
-        let order_date = date_of(&due, date);
-        let order = self
-            .records
-            .next_order(sender, reference, receiver, amount, order_date, due);
-        if settles_now(&self.records, &sending, amount, &due) {
-            return self.prepare_settled(&order, &sending, &receiving);
+        let order_date = date_of(&order.due, date);
+        let taken = self.records.next_order(sender, order, order_date);
+        if settles_now(&self.records, &sending, order) {
+            return self.prepare_settled(&taken, &sending, &receiving);
         }
         if self.records.orders.count(&sender) >= LONGEST_QUEUE {
             return Err(Refusal::QueueFull);
         }
-        self.prepare_waiting(order)
+        self.prepare_waiting(taken)
     }
 
     // The order is settled, under a mark of its own.
@@ -106,7 +102,7 @@ impl Ledger {
         ensures room { IfOk result (λ (answer, change). HasRoom self.new change) }
         ensures frees { IfOk result (λ (answer, change). FreesOrders change) }
         ensures answered { IfOk result (λ (answer, change). CanAnswerByItself
-            (Command.Order order.now.sender order.now.reference order.now.receiver order.now.amount order.now.due)
+            (Command.Order order.now.sender (as_sent order.now))
             answer change) }
         ensures of_the_command { IfErr result (λ refusal. is_of_the_store refusal ≡ false) }
         ensures prepared { (book : Book) → IsCoreOf book self.old.core → IsTaken book order.now
@@ -114,11 +110,10 @@ impl Ledger {
             → find (is_of order.now.sender) self.old.core.accounts ≡ Some sending.now
             → find (is_of order.now.receiver) self.old.core.accounts ≡ Some receiving.now
             → IfOk result (λ (answer, change). IsPreparedByItself book self.old.core
-            (Command.Order order.now.sender order.now.reference order.now.receiver order.now.amount order.now.due)
+            (Command.Order order.now.sender (as_sent order.now))
             answer change) }
         ensures refused { (book : Book) → IsCoreOf book self.old.core → IsTaken book order.now
-            → IfErr result (IsRefusedByItself book (Command.Order order.now.sender order.now.reference
-            order.now.receiver order.now.amount order.now.due)) }
+            → IfErr result (IsRefusedByItself book (Command.Order order.now.sender (as_sent order.now))) }
     {
         laws::balances_are_small();
         if !self.records.counts_marks() {
@@ -143,14 +138,14 @@ impl Ledger {
         ensures room { IfOk result (λ (answer, change). HasRoom self.new change) }
         ensures frees { IfOk result (λ (answer, change). FreesOrders change) }
         ensures answered { IfOk result (λ (answer, change). CanAnswerByItself
-            (Command.Order order.sender order.reference order.receiver order.amount order.due) answer change) }
+            (Command.Order order.sender (as_sent order)) answer change) }
         ensures of_the_command { IfErr result (λ refusal. is_of_the_store refusal ≡ false) }
         ensures prepared { (book : Book) → IsCoreOf book self.old.core → IsTaken book order
-            → settles_now book order.sender order.amount order.due ≡ false
+            → settles_now book order.sender (as_sent order) ≡ false
             → IfOk result (λ (answer, change). IsPreparedByItself book self.old.core
-            (Command.Order order.sender order.reference order.receiver order.amount order.due) answer change) }
+            (Command.Order order.sender (as_sent order)) answer change) }
         ensures refused { (book : Book) → IsTaken book order → IfErr result (IsRefusedByItself book
-            (Command.Order order.sender order.reference order.receiver order.amount order.due)) }
+            (Command.Order order.sender (as_sent order))) }
     {
         queues_are_of_the_waiting();
         let place = self.records.orders.queue(&order.sender).len() as u64 + 1;
@@ -207,27 +202,6 @@ fn settled_rows(
     Ok(rows)
 }
 
-// Whether the order has this content.
-fn is_same_order(found: &Order, receiver: &Code, amount: Amount, due: &Option<BusinessDate>) -> bool
-    ensures { result ≡ (bytes_eq found.now.receiver receiver.now && (found.now.amount == amount)
-        && is_same_due found.now.due due.now) }
-{
-    found.receiver == *receiver && found.amount == amount && is_same_due(&found.due, due)
-}
-
-// Whether these are the same due date, or both times none.
-fn is_same_due(one: &Option<BusinessDate>, other: &Option<BusinessDate>) -> bool
-    ensures { result ≡ is_same_due one.now other.now }
-{
-    match one {
-        None => other.is_none(),
-        Some(one) => match other {
-            None => false,
-            Some(other) => *one == *other,
-        },
-    }
-}
-
 // Refuses a due date that is not later than the last date of the desk, and then one that is a Saturday or a Sunday.
 fn check_due(records: &Records, due: &Option<BusinessDate>) -> Result<(), Refusal>
     ensures passed { IfOk result (λ _. (is_too_early records.now.day.date due.now ≡ false)
@@ -274,20 +248,15 @@ fn date_of(due: &Option<BusinessDate>, date: BusinessDate) -> BusinessDate
 }
 
 // Whether the order has no due date and is settled at once.
-fn settles_now(
-    records: &Records,
-    sending: &Account,
-    amount: Amount,
-    due: &Option<BusinessDate>,
-) -> bool
-    ensures value { result ≡ (is_none due.now
+fn settles_now(records: &Records, sending: &Account, order: &NewOrder) -> bool
+    ensures value { result ≡ (is_none order.now.due
         && (is_empty (queued_numbers records.now.orders.orders (code_of sending.now))
         && int_le (floor_at records.now.day.phase sending.now.participant.credit)
-        (sending.now.balance -ℤ pos amount))) }
-    ensures fits { IsAmount amount }
+        (sending.now.balance -ℤ pos order.now.amount))) }
+    ensures fits { IsAmount order.now.amount }
 {
-    let settles = records.settles_at_once(sending, amount);
-    match due {
+    let settles = records.settles_at_once(sending, order.amount);
+    match &order.due {
         None => settles,
         Some(_) => false,
     }

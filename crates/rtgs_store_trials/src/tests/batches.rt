@@ -6,9 +6,10 @@ mod sessions;
 
 use super::scripts::desks::desk_after;
 use super::setting::code;
+use rtgs_book::NewOrder;
 use rtgs_desk::{Desk, submit_batch};
 use rtgs_keeper::Keeper;
-use rtgs_order_files::{BatchResult, OrderRow, read_orders, write_results};
+use rtgs_order_files::{BatchResult, read_orders, write_results};
 use rtgs_tests_desks::MemoryKeeper;
 use std::alloc::Global;
 use std::test::Fail;
@@ -27,7 +28,7 @@ open 2024-03-04 => Opened
 ";
 
 // The rows of an order file.
-fn rows_of(alloc: Global, file: &str) -> Result<Vec<OrderRow>, Fail> {
+fn rows_of(alloc: Global, file: &str) -> Result<Vec<NewOrder>, Fail> {
     Ok(read_orders(alloc, file.as_bytes())?)
 }
 
@@ -40,7 +41,7 @@ fn open_desk(alloc: Global) -> Result<Desk<MemoryKeeper>, Fail> {
 fn submitted<K: Keeper>(
     alloc: Global,
     desk: &mut Desk<K>,
-    rows: &[OrderRow],
+    rows: &[NewOrder],
 ) -> Result<BatchResult, Fail> {
     let sender = code("ALFA")?;
     Ok(submit_batch(alloc, desk, sender, rows)?)
@@ -59,7 +60,7 @@ fn replies_text<K: Keeper>(alloc: Global, desk: &mut Desk<K>, file: &str) -> Res
 }
 
 // The text of the result file of this batch.
-fn written(alloc: Global, rows: &[OrderRow], batch: &BatchResult) -> Result<String, Fail> {
+fn written(alloc: Global, rows: &[NewOrder], batch: &BatchResult) -> Result<String, Fail> {
     let mut text = Vec::new(alloc);
     write_results(alloc, &mut text, rows, batch)?;
     Ok(String::from_utf8(text)?)

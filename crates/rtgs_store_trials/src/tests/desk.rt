@@ -5,7 +5,7 @@ mod readings;
 
 use super::scripts::command;
 use super::setting::{alone, desk_over};
-use rtgs_book::{Answer, Refusal};
+use rtgs_book::{Answer, NewOrder, Refusal};
 use rtgs_desk::Desk;
 use rtgs_keeper::Keeper;
 use rtgs_tests_desks::MemoryKeeper;
@@ -19,6 +19,8 @@ fn postings_kept(alloc: Global, desk: Desk<MemoryKeeper>) -> Result<usize, Fail>
 
 #[test]
 fn a_posting_is_answered_and_kept(rt: HostRuntime) -> Result<(), Fail> {
+    // Names the type of orders for the borrow checker, which finds it nowhere else in this function.
+    let _no_order: Option<NewOrder> = None;
     let add = command(rt.alloc(), "add ALFA 0000000000000000000000000000000a")?;
     let post = command(rt.alloc(), "post ALFA P-1 100")?;
     let mut desk = desk_over(rt.alloc(), MemoryKeeper::new(rt.alloc()))?;

@@ -4,7 +4,7 @@ mod follow_up;
 use super::scripts::command;
 use super::scripts::ledgers::{funded_ledger_follows, new_ledger, new_ledger_follows};
 use super::setting::change;
-use rtgs_book::{Answer, Day, Fault, Found, Phase, Refusal, RowChange};
+use rtgs_book::{Answer, Day, Fault, Found, NewOrder, Phase, Refusal, RowChange};
 use rtgs_keeper::Keeper;
 use rtgs_tests_desks::MemoryKeeper;
 use std::alloc::Global;
@@ -12,6 +12,8 @@ use std::test::Fail;
 
 #[test]
 fn a_participant_is_prepared_and_adopted(rt: HostRuntime) -> Result<(), Fail> {
+    // Names the type of orders for the borrow checker, which finds it nowhere else in this function.
+    let _no_order: Option<NewOrder> = None;
     let command = command(rt.alloc(), "add ALFA 0000000000000000000000000000000a")?;
     let mut ledger = new_ledger(rt.alloc())?;
     match ledger.prepare(&command, &Found::NOTHING) {
@@ -26,6 +28,8 @@ fn a_participant_is_prepared_and_adopted(rt: HostRuntime) -> Result<(), Fail> {
 
 #[test]
 fn an_unknown_participant_gets_no_posting(rt: HostRuntime) -> Result<(), Fail> {
+    // Names the type of orders for the borrow checker, which finds it nowhere else in this function.
+    let _no_order: Option<NewOrder> = None;
     let command = command(rt.alloc(), "post ALFA P-1 1")?;
     let mut ledger = new_ledger(rt.alloc())?;
     let refused = ledger.prepare(&command, &Found::NOTHING).err();

@@ -2,7 +2,8 @@
 use super::scripts::records::add_part;
 use super::scripts::{Answers, follows};
 use super::setting::is_same;
-use rtgs_order_files::{BatchFault, OrderRow, read_orders};
+use rtgs_book::NewOrder;
+use rtgs_order_files::{BatchFault, read_orders};
 use std::alloc::{AllocError, Global};
 use std::test::Fail;
 
@@ -58,8 +59,8 @@ fn meant_by(letter: u8) -> Option<&'static [u8]> {
 }
 
 // A row: its reference, its receiver and its cents, and its due date if it has one.
-fn row_text(alloc: Global, row: &OrderRow) -> Result<String, AllocError> {
-    let OrderRow {
+fn row_text(alloc: Global, row: &NewOrder) -> Result<String, AllocError> {
+    let NewOrder {
         reference,
         receiver,
         amount,
@@ -72,7 +73,7 @@ fn row_text(alloc: Global, row: &OrderRow) -> Result<String, AllocError> {
 }
 
 // Rows, with a comma between them.
-fn rows_text(alloc: Global, rows: &[OrderRow]) -> Result<String, Fail> {
+fn rows_text(alloc: Global, rows: &[NewOrder]) -> Result<String, Fail> {
     let mut text = String::new(alloc);
     for row in rows {
         let row = row_text(alloc, row)?;

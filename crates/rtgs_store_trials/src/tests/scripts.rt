@@ -6,7 +6,7 @@ pub mod records;
 pub mod rows;
 
 use super::setting::{Reply, code, reference};
-use rtgs_book::{Command, Resolution, WholeAnswer};
+use rtgs_book::{Command, NewOrder, Resolution, WholeAnswer};
 use rtgs_money::{Amount, BusinessDate, Credit, Key, Name, PostingAmount};
 use std::alloc::Global;
 use std::test::Fail;
@@ -136,10 +136,12 @@ fn ordered(
 ) -> Result<Command, Fail> {
     Ok(Command::Order {
         sender: code(sender)?,
-        reference: reference(name)?,
-        receiver: code(receiver)?,
-        amount: Amount::read(cents.as_bytes())?,
-        due,
+        order: NewOrder {
+            reference: reference(name)?,
+            receiver: code(receiver)?,
+            amount: Amount::read(cents.as_bytes())?,
+            due,
+        },
     })
 }
 

@@ -1,7 +1,8 @@
 //! Order files, and batches of orders.
 use super::super::scarce::setting::code;
 use super::super::scarce::{Call, InMemory, ORDERS, Outcome, Sends, for_each_refusal};
-use rtgs_order_files::{BatchFault, OrderRow, read_orders};
+use rtgs_book::NewOrder;
+use rtgs_order_files::{BatchFault, read_orders};
 use std::alloc::Global;
 use std::test::Fail;
 
@@ -12,17 +13,17 @@ struct Reads;
 impl Call for Reads {
     type State = Vec<u8>;
 
-    type Answer = Result<Vec<OrderRow>, BatchFault>;
+    type Answer = Result<Vec<NewOrder>, BatchFault>;
 
     fn begin(&self, alloc: Global) -> Result<Vec<u8>, Fail> {
         Ok(Vec::from_slice(alloc, ORDERS)?)
     }
 
-    fn call(&self, alloc: Global, file: &mut Vec<u8>) -> Result<Vec<OrderRow>, BatchFault> {
+    fn call(&self, alloc: Global, file: &mut Vec<u8>) -> Result<Vec<NewOrder>, BatchFault> {
         read_orders(alloc, file.as_slice())
     }
 
-    fn outcome(&self, answer: &Result<Vec<OrderRow>, BatchFault>) -> Outcome {
+    fn outcome(&self, answer: &Result<Vec<NewOrder>, BatchFault>) -> Outcome {
         match answer {
             Err(BatchFault::OutOfMemory) => Outcome::Refused,
             _ => Outcome::Other,

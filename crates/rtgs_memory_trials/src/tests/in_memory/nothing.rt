@@ -4,7 +4,7 @@ use super::super::scarce::setting::{
     pays_on,
 };
 use super::super::scarce::{Held, had_none, in_a_process, is_limited, is_none_left};
-use rtgs_book::{Command, Found};
+use rtgs_book::{Command, Found, NewOrder};
 use rtgs_gridlock::{Payment, Position, Positions, Queues, Workspace, greatest};
 use rtgs_http_bodies::Reply;
 use rtgs_keeper::Keeper;
@@ -111,6 +111,8 @@ fn adopt_without_memory(alloc: Global, ledger: &mut Ledger, command: &Command) -
 
 // How ALFA and BETA stand once an order of so many cents is adopted so.
 fn order_adopted(alloc: Global, cents: u64) -> Result<[(i64, usize); 2], Fail> {
+    // Names the type of orders for the borrow checker, which finds it nowhere else in this function.
+    let _no_order: Option<NewOrder> = None;
     let mut ledger = ledger_of_two(alloc)?;
     let order = pays("ALFA", "A-1", "BETA", cents)?;
     adopt_without_memory(alloc, &mut ledger, &order)?;

@@ -3,9 +3,9 @@ use super::super::scarce::setting::{KEYS, opens, opens_automatic, pays, posts};
 use super::super::scarce::{
     InMemory, OPERATOR, ORDERS, Serves, Worked, for_each_refusal, request_of,
 };
-use rtgs_book::Command;
+use rtgs_book::{Command, NewOrder};
 use rtgs_money::Key;
-use rtgs_order_files::{OrderRow, read_orders};
+use rtgs_order_files::read_orders;
 use std::test::Fail;
 
 // Serves this request to a desk in memory, after these commands. It has these rows where it is a batch.
@@ -14,7 +14,7 @@ fn tries_rows(
     name: &str,
     before: &[Command],
     request: &String,
-    rows: &[OrderRow],
+    rows: &[NewOrder],
 ) -> Result<(), Fail> {
     let call = Serves {
         store: InMemory,

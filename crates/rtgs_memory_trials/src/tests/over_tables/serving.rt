@@ -2,12 +2,13 @@
 use super::super::scarce::setting::{KEYS, opens, posts};
 use super::super::scarce::{OPERATOR, ORDERS, Serves, for_each_refusal, request_of};
 use super::over_sql::{BLOCKS, OverSql};
+use rtgs_book::NewOrder;
 use rtgs_money::Key;
-use rtgs_order_files::{OrderRow, read_orders};
+use rtgs_order_files::read_orders;
 use std::test::Fail;
 
 // Serves this request to a desk over tables, after a posting to ALFA. It has these rows where it is a batch.
-fn tries(rt: &HostRuntime, name: &str, request: &String, rows: &[OrderRow]) -> Result<(), Fail> {
+fn tries(rt: &HostRuntime, name: &str, request: &String, rows: &[NewOrder]) -> Result<(), Fail> {
     let call = Serves {
         store: OverSql,
         before: &[posts("ALFA", "P-1", 150)?, opens()?],

@@ -2,10 +2,10 @@
 use super::super::scarce::setting::{code, seen_of};
 use super::super::scarce::{Held, Store, in_a_process, is_limited, orders_desk, same};
 use super::over_sql::OverSql;
-use rtgs_book::Refusal;
+use rtgs_book::{NewOrder, Refusal};
 use rtgs_desk::{Desk, submit_batch};
 use rtgs_keeper::Keeper;
-use rtgs_order_files::{BatchResult, OrderRow, read_orders, write_results};
+use rtgs_order_files::{BatchResult, read_orders, write_results};
 use std::alloc::Global;
 use std::fmt::Write;
 use std::test::Fail;
@@ -31,7 +31,7 @@ const MOST_STEPS: usize = 128;
 const HEADER: &str = "reference,result,number,detail\n";
 
 // The rows: orders of ALFA, which has the cents for all of them.
-fn read_rows(alloc: Global) -> Result<Vec<OrderRow>, Fail> {
+fn read_rows(alloc: Global) -> Result<Vec<NewOrder>, Fail> {
     let mut file = String::from_str(alloc, "reference,to,amount\n")?;
     for number in FIRST..=LAST {
         write!(file, "A-{number},BETA,1\n")?;
@@ -65,7 +65,7 @@ fn results_from(alloc: Global, refused: u64) -> Result<String, Fail> {
 // The file of these results is this one.
 fn has_file(
     alloc: Global,
-    rows: &[OrderRow],
+    rows: &[NewOrder],
     batch: &BatchResult,
     wanted: &str,
 ) -> Result<(), Fail> {
@@ -78,7 +78,7 @@ fn has_file(
 fn with_little<K: Keeper>(
     alloc: Global,
     desk: &mut Desk<K>,
-    rows: &[OrderRow],
+    rows: &[NewOrder],
     given: usize,
 ) -> Result<Option<BatchResult>, Fail> {
     let sender = code("ALFA")?;
@@ -103,7 +103,7 @@ fn count_of(batch: &BatchResult) -> usize {
 fn is_completed<K: Keeper>(
     alloc: Global,
     desk: &mut Desk<K>,
-    rows: &[OrderRow],
+    rows: &[NewOrder],
     refused: u64,
     once: &str,
 ) -> Result<(), Fail> {
@@ -113,7 +113,7 @@ fn is_completed<K: Keeper>(
 }
 
 // What is seen of a desk that was sent these rows.
-fn seen_after<S: Store>(alloc: Global, store: &S, rows: &[OrderRow]) -> Result<String, Fail>
+fn seen_after<S: Store>(alloc: Global, store: &S, rows: &[NewOrder]) -> Result<String, Fail>
 where
     S::Kept: Keeper + Drop,
 {
@@ -127,7 +127,7 @@ where
 fn answered<S: Store>(
     alloc: Global,
     store: &S,
-    rows: &[OrderRow],
+    rows: &[NewOrder],
     once: &str,
     given: usize,
 ) -> Result<usize, Fail>
@@ -152,7 +152,7 @@ where
 }
 
 // What is seen of a desk that was sent the rows once.
-fn seen_once<S: Store>(alloc: Global, store: &S, rows: &[OrderRow]) -> Result<String, Fail>
+fn seen_once<S: Store>(alloc: Global, store: &S, rows: &[NewOrder]) -> Result<String, Fail>
 where
     S::Kept: Keeper + Drop,
 {
@@ -164,7 +164,7 @@ where
 
 // With more and more memory until all rows are answered: how many steps that takes, and at how many rows the batch
 // stops.
-fn rows_met<S: Store>(alloc: Global, store: &S, rows: &[OrderRow]) -> Result<(usize, usize), Fail>
+fn rows_met<S: Store>(alloc: Global, store: &S, rows: &[NewOrder]) -> Result<(usize, usize), Fail>
 where
     S::Kept: Keeper + Drop,
 {

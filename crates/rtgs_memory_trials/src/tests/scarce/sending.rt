@@ -2,11 +2,11 @@
 use super::call::{Call, Outcome};
 use super::setting::{desk_after, desk_over, opens, posts, seen_of};
 use super::store::Store;
-use rtgs_book::Refusal;
+use rtgs_book::{NewOrder, Refusal};
 use rtgs_desk::{Desk, submit_batch};
 use rtgs_keeper::Keeper;
 use rtgs_money::Code;
-use rtgs_order_files::{BatchResult, OrderRow, RowReply};
+use rtgs_order_files::{BatchResult, RowReply};
 use std::alloc::{AllocError, Global};
 use std::test::Fail;
 
@@ -33,7 +33,7 @@ pub fn orders_desk<K: Keeper + Drop>(alloc: Global, keeper: K) -> Result<Desk<K>
 pub struct Sends<'a, S> {
     pub store: S,
     pub sender: Code,
-    pub rows: &'a [OrderRow],
+    pub rows: &'a [NewOrder],
 }
 
 impl<S: Store> Call for Sends<'_, S>

@@ -2,12 +2,11 @@
 use super::call::{Call, Outcome};
 use super::setting::{code, desk_after, desk_over, seen_of};
 use super::store::Store;
-use rtgs_book::Command;
+use rtgs_book::{Command, NewOrder};
 use rtgs_desk::{Desk, submit_batch};
 use rtgs_http_server::{Served, serve_one};
 use rtgs_keeper::Keeper;
 use rtgs_money::KeyDigest;
-use rtgs_order_files::OrderRow;
 use std::alloc::Global;
 use std::fmt::Write;
 use std::test::Fail;
@@ -50,7 +49,7 @@ pub struct Serves<'a, S> {
     pub request: &'a [u8],
     pub operator: KeyDigest,
     /// The rows of the request where it is a batch of ALFA, and else none.
-    pub rows: &'a [OrderRow],
+    pub rows: &'a [NewOrder],
 }
 
 impl<S: Store> Serves<'_, S> {

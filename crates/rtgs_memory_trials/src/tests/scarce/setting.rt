@@ -1,5 +1,5 @@
 //! Banks, their commands, and desks over keepers.
-use rtgs_book::Command;
+use rtgs_book::{Command, NewOrder};
 use rtgs_desk::Desk;
 use rtgs_keeper::Keeper;
 use rtgs_money::{Amount, BusinessDate, Code, Credit, Key, Name, PostingAmount, Reference};
@@ -86,10 +86,12 @@ pub fn opens_on(day: &str, automatic: bool) -> Result<Command, Fail> {
 pub fn pays(sender: &str, name: &str, receiver: &str, cents: u64) -> Result<Command, Fail> {
     Ok(Command::Order {
         sender: code(sender)?,
-        reference: reference(name)?,
-        receiver: code(receiver)?,
-        amount: amount(cents)?,
-        due: None,
+        order: NewOrder {
+            reference: reference(name)?,
+            receiver: code(receiver)?,
+            amount: amount(cents)?,
+            due: None,
+        },
     })
 }
 
@@ -97,10 +99,12 @@ pub fn pays(sender: &str, name: &str, receiver: &str, cents: u64) -> Result<Comm
 pub fn pays_on(name: &str, cents: u64, due: &str) -> Result<Command, Fail> {
     Ok(Command::Order {
         sender: code("ALFA")?,
-        reference: reference(name)?,
-        receiver: code("BETA")?,
-        amount: amount(cents)?,
-        due: Some(date(due)?),
+        order: NewOrder {
+            reference: reference(name)?,
+            receiver: code("BETA")?,
+            amount: amount(cents)?,
+            due: Some(date(due)?),
+        },
     })
 }
 

@@ -1,5 +1,5 @@
 use Rattle.std.proofs.Common.{sym, rules, ◌∙◌, Vec, Global}
-use Rattle.rtgs_order_files.specs.declared.order_row.OrderRow.{OrderRow}
+use Rattle.rtgs_book.specs.declared.new_order.NewOrder.{NewOrder}
 use Rattle.rtgs_order_files.specs.Reading.{left_of}
 use Rattle.rtgs_order_files.proofs.OrderFiles.{of_under, taken, refused, fault_at_once, refused_at_once}
 use Rattle.rtgs_order_files.proofs.order_file.read_orders.Goals as goal
@@ -17,7 +17,7 @@ returns-in_err-columns-clause-refused c =
 pub returns : goal.returns
 returns c =
     let e = c.read_rows.ensures in
-    let items = λ (v : Vec OrderRow Global). v.items in
+    let items = λ (v : Vec NewOrder Global). v.items in
     let under = sym c.records_of-records.ensures.left ∙ c.in_ok-columns.ensures.taken in
     let read = of_under items c.args.bytes.now c.in_ok-columns.columns (left_of c.take_header.new.records)
     c.read_rows.result under e.rows e.fault in

@@ -23,10 +23,10 @@ loop-record-preserved c =
     i.reading c.next.ensures.steps) in
     let good : is_ok c.push.result ≡ true = search rules in
     let items = rw good at c.push.ensures.items in
-    let row = c.in-Some-read.ensures.value in
+    let row = c.in-Some-read_row.ensures.value in
     record {
       reading = one.0;
-      spelled = rw items (begin_more c.args.columns c.loop-record.rows.items c.in-Some-read.row
+      spelled = rw items (begin_more c.args.columns c.loop-record.rows.items c.in-Some-read_row.row
           (fields_of c.in-Ok.«record») (left_of c.loop-record.record-iterator) (left_of c.next.new.self)
           (left_of c.args.records) i.spelled one.1 row.1 row.0);
       few = rw (items, length-append) (omega (arith, c.len.ensures));
@@ -56,7 +56,7 @@ returns-in_default-clause-fault c =
       left_of c.next.new.self,
       rw one.1 at i.spelled,
       λ row good e.
-          cc (c.in_default.is, c.read.ensures.found row good e),
+          cc (c.in_default.is, c.read_row.ensures.found row good e),
       omega (arith, c.len-in_default.ensures),
       omega
           (arith, c.len.ensures, c.len-in_default.ensures),

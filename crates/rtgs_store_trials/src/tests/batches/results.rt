@@ -2,10 +2,10 @@
 use super::super::setting::is_same;
 use super::cut_writer::CutWriter;
 use super::{THREE_ROWS, open_desk, results_text, rows_of, submitted, written};
-use rtgs_book::{OrderState, Refusal};
+use rtgs_book::{NewOrder, OrderState, Refusal};
 use rtgs_desk::Desk;
 use rtgs_keeper::Keeper;
-use rtgs_order_files::{BatchResult, OrderRow, RowReply, write_results};
+use rtgs_order_files::{BatchResult, RowReply, write_results};
 use std::alloc::Global;
 use std::process::Abort;
 use std::test::Fail;
@@ -75,7 +75,7 @@ fn a_repeat_tells_each_state(rt: HostRuntime) -> Result<(), Fail> {
 // took of it.
 fn has_a_beginning(
     alloc: Global,
-    rows: &[OrderRow],
+    rows: &[NewOrder],
     batch: &BatchResult,
     whole: &str,
     (writes, fails): (usize, bool),
@@ -90,7 +90,7 @@ fn has_a_beginning(
 // Fails unless each writer that stops before the end, or at it, has a beginning of the text.
 fn writers_have_beginnings(
     rt: &(impl Abort + AllocGlobal),
-    rows: &[OrderRow],
+    rows: &[NewOrder],
     batch: &BatchResult,
     whole: &str,
 ) {

@@ -8,12 +8,12 @@ ghost use Rattle.rtgs_desk.specs.batches.Batches.{orders_of, replies_of, with_st
 
 use super::super::setting::{alone, code};
 use super::{THREE_ROWS, open_desk, rows_of};
-use rtgs_book::{Answer, Command, Refusal, WholeAnswer};
+use rtgs_book::{Answer, Command, NewOrder, Refusal, WholeAnswer};
 use rtgs_desk::{Desk, submit_batch};
 use rtgs_keeper::Keeper;
 use rtgs_laws::repeats::laws::sessions_join;
 use rtgs_money::Code;
-use rtgs_order_files::{BatchResult, OrderRow};
+use rtgs_order_files::BatchResult;
 use std::alloc::{AllocError, Global};
 use std::test::Fail;
 
@@ -24,7 +24,7 @@ fn submit_and_send<K: Keeper>(
     desk: &mut Desk<K>,
     command: Command,
     sender: Code,
-    rows: &[OrderRow],
+    rows: &[NewOrder],
 ) -> Result<(Result<WholeAnswer, Refusal>, BatchResult), AllocError>
     ensures { IfOk result (λ (reply, batch). K.is_honest desk.new.keeper → (book : Book) → Holds K.Keeper desk.old book
         → reply ≢ Err Refusal.StoreFault → (found : Book) → K.leaves desk.new.keeper found

@@ -2,7 +2,7 @@
 use super::super::scripts::desks::{desk_after, desk_follows};
 use super::super::scripts::{command, follows};
 use super::super::setting::{Reply, queued};
-use rtgs_book::{Command, Refusal};
+use rtgs_book::{Command, NewOrder, Refusal};
 use rtgs_desk::Desk;
 use rtgs_keeper::Keeper;
 use std::alloc::Global;
@@ -99,6 +99,8 @@ fn fills_a_queue<K: Keeper>(
 
 #[test]
 fn a_queue_takes_500_orders(rt: HostRuntime) -> Result<(), Fail> {
+    // Names the type of orders for the borrow checker, which finds it nowhere else in this function.
+    let _no_order: Option<NewOrder> = None;
     let another = command(rt.alloc(), "order BETA B-1 ALFA 5")?;
     let mut desk = desk_after(rt.alloc(), "open 2024-03-04 => Opened")?;
     fills_a_queue(&rt, &mut desk)?;

@@ -7,8 +7,8 @@ use super::super::setting::{
     queued, reference, resolved,
 };
 use rtgs_book::{
-    Answer, Command, Day, Known, Order, OrderState, Phase, Refusal, Resolution, RowChange,
-    WholeAnswer,
+    Answer, Command, Day, Known, NewOrder, Order, OrderState, Phase, Refusal, Resolution,
+    RowChange, WholeAnswer,
 };
 use rtgs_keeper::Keeper;
 use rtgs_money::{BusinessDate, Cents, Code, Reference};
@@ -134,10 +134,12 @@ fn sends(alloc: Global, ring: Ring, number: u64) -> Result<Command, Fail> {
     let order = order(alloc, ring, number)?;
     Ok(Command::Order {
         sender: order.sender,
-        reference: order.reference,
-        receiver: order.receiver,
-        amount: order.amount,
-        due: order.due,
+        order: NewOrder {
+            reference: order.reference,
+            receiver: order.receiver,
+            amount: order.amount,
+            due: order.due,
+        },
     })
 }
 
@@ -170,8 +172,8 @@ fn replies<S: Alter + Drop>(
     keeper: SqlKeeper<S>,
     commands: &[Command],
 ) -> Result<Vec<Reply>, Fail> {
-    // Names the type of due dates for the borrow checker, which finds it nowhere else in this function.
-    let _no_date: Option<BusinessDate> = None;
+    // Names the types of orders and of due dates for the borrow checker, which finds them nowhere else in this function.
+    let (_no_order, _no_date): (Option<NewOrder>, Option<BusinessDate>) = (None, None);
     let mut keeper = keeper;
     let mut replies = Vec::new(alloc);
     for command in commands {
@@ -245,10 +247,12 @@ fn closing(alloc: Global) -> Result<Command, Fail> {
     let due: Option<BusinessDate> = None;
     Ok(Command::Order {
         sender: bank(alloc, 0)?,
-        reference: name(alloc, 0)?,
-        receiver: bank(alloc, 1)?,
-        amount: amount(AT_ONCE)?,
-        due,
+        order: NewOrder {
+            reference: name(alloc, 0)?,
+            receiver: bank(alloc, 1)?,
+            amount: amount(AT_ONCE)?,
+            due,
+        },
     })
 }
 

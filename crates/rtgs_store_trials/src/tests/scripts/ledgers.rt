@@ -3,7 +3,7 @@ use super::super::setting::{Reply, code, reference};
 use super::records::{order_if_any, queue_text};
 use super::rows::{day_text, rows_text};
 use super::{Answers, command_of, follows, reply_text, words_of};
-use rtgs_book::{Answer, Command, Found, Resolution};
+use rtgs_book::{Answer, Command, Found, NewOrder, Resolution};
 use rtgs_keeper::Keeper;
 use rtgs_ledger::Ledger;
 use rtgs_money::BusinessDate;
@@ -96,12 +96,11 @@ fn new_kept(alloc: Global) -> Result<Kept, Fail> {
 /// What the keeper finds for the command.
 fn found_for(keeper: &mut MemoryKeeper, command: &Command) -> Result<Found, Fail> {
     match command {
-        Command::Order {
-            sender,
-            reference,
-            ..
-        }
-        | Command::Withdraw { sender, reference } => Ok(Found {
+        Command::Order { sender, order } => Ok(Found {
+            order: keeper.find_order(sender, &order.reference)?,
+            posting: None,
+        }),
+        Command::Withdraw { sender, reference } => Ok(Found {
             order: keeper.find_order(sender, reference)?,
             posting: None,
         }),
@@ -116,7 +115,7 @@ fn found_for(keeper: &mut MemoryKeeper, command: &Command) -> Result<Found, Fail
 /// What a command of these words is answered.
 fn reply_line(alloc: Global, kept: &mut Kept, words: &[&str]) -> Result<String, Fail> {
     // Names the types within commands and replies for the borrow checker, which finds them nowhere else in this function.
-    let _no_date: Option<BusinessDate> = None;
+    let (_no_order, _no_date): (Option<NewOrder>, Option<BusinessDate>) = (None, None);
     let _no_answer: Option<Answer> = None;
     let _no_resolution: Option<Resolution> = None;
     let command = command_of(words)?;
@@ -127,7 +126,7 @@ fn reply_line(alloc: Global, kept: &mut Kept, words: &[&str]) -> Result<String, 
 /// The rows of the change that a command of these words makes, which is adopted.
 fn rows_line(alloc: Global, kept: &mut Kept, words: &[&str]) -> Result<String, Fail> {
     // Names the types within commands and replies for the borrow checker, which finds them nowhere else in this function.
-    let _no_date: Option<BusinessDate> = None;
+    let (_no_order, _no_date): (Option<NewOrder>, Option<BusinessDate>) = (None, None);
     let _no_answer: Option<Answer> = None;
     let _no_resolution: Option<Resolution> = None;
     let command = command_of(words)?;

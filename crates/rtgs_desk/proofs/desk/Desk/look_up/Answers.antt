@@ -2,6 +2,7 @@ use Rattle.std.proofs.Common.{◌≡◌, ◌≢◌, ◌∙◌, ℕ, ℤ, List, O
 use Rattle.rtgs_book.specs.declared.book.Book.{Book}
 use Rattle.rtgs_book.specs.declared.command.Command.{Command}
 use Rattle.rtgs_book.specs.declared.command.Command.TheVariants as command
+use Rattle.rtgs_book.specs.declared.new_order.NewOrder.{NewOrder}
 use Rattle.rtgs_book.specs.declared.order.Order.{Order}
 use Rattle.rtgs_book.specs.declared.posting.Posting.{Posting}
 use Rattle.rtgs_book.specs.Lookup.{order_named, posting_named}
@@ -20,11 +21,11 @@ found_posting : (book : Book) (code reference : List ℕ) (cents : ℤ) (posting
 unfolding found_for
 found_posting book code reference cents posting e = λ i. record { order = None; posting = e i }
 
-found_order : (book : Book) (sender reference receiver : List ℕ) (amount : ℕ) (due : Option ℕ) (order : Option Order)
-    → order ≡ order_named book sender reference
-    → record { order = order; posting = None } ≡ found_for book (command.Order sender reference receiver amount due)
+found_order : (book : Book) (sender : List ℕ) (new_order : NewOrder) (order : Option Order)
+    → order ≡ order_named book sender new_order.reference
+    → record { order = order; posting = None } ≡ found_for book (command.Order sender new_order)
 unfolding found_for
-found_order book sender reference receiver amount due order e = λ i. record { order = e i; posting = None }
+found_order book sender new_order order e = λ i. record { order = e i; posting = None }
 
 found_withdrawn : (book : Book) (sender reference : List ℕ) (order : Option Order)
     → order ≡ order_named book sender reference
@@ -34,14 +35,12 @@ found_withdrawn book sender reference order e = λ i. record { order = e i; post
 
 found_nothing : (book : Book) (c : Command)
     → ((code reference : List ℕ) (cents : ℤ) → c ≢ command.Post code reference cents)
-    → ((sender reference receiver : List ℕ) (amount : ℕ) (due : Option ℕ) → c ≢ command.Order sender reference receiver
-    amount due)
+    → ((sender : List ℕ) (new_order : NewOrder) → c ≢ command.Order sender new_order)
     → ((sender reference : List ℕ) → c ≢ command.Withdraw sender reference)
     → record { order = None; posting = None } ≡ found_for book c
 unfolding found_for
 found_nothing book (command.Post code reference cents) post order withdraw = absurd (post code reference cents refl)
-found_nothing book (command.Order sender reference receiver amount due) post order withdraw = absurd
-    (order sender reference receiver amount due refl)
+found_nothing book (command.Order sender new_order) post order withdraw = absurd (order sender new_order refl)
 found_nothing book (command.Withdraw sender reference) post order withdraw = absurd (withdraw sender reference refl)
 found_nothing book (command.Add code name key) post order withdraw = refl
 found_nothing book (command.SetCredit code credit) post order withdraw = refl
@@ -87,7 +86,7 @@ returns-clause-found g c honest book held = elim c.match-command.branch [
   | in-Order+in_ok-found-in-Order w ↦
       let found = w.in_ok-found-in-Order.ensures.found
       (subst (λ (s : Seen g.row.K.Denot). g.K.Keeper.is_honest s.keeper) w.self-is honest) book held in
-      w.found-is ∙ found_order book w.in-Order.sender w.in-Order.reference _ _ _ w.in_ok-found-in-Order.field-0 found
+      w.found-is ∙ found_order book w.in-Order.sender w.in-Order.order w.in_ok-found-in-Order.field-0 found
       ∙ ap (found_for book) (sym w.in-Order.is)
   | in-Withdraw+in_ok-found-in-Withdraw w ↦
       let found = w.in_ok-found-in-Withdraw.ensures.found

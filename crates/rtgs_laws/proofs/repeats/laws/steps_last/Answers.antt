@@ -32,5 +32,5 @@ returns c old new command reply sound step = record {
     at_once (CloseDay date) accepted step = c.day_is_repeated.ensures.closed old new date reply sound accepted step
     at_once (Add code name key) accepted step = tt
     at_once (Post code reference cents) accepted step = tt
-    at_once (Order sender reference receiver amount due) accepted step = tt
+    at_once (Order sender new_order) accepted step = tt
     at_once (Withdraw sender reference) accepted step = tt

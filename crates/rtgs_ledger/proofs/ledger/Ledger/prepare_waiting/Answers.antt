@@ -3,7 +3,7 @@ use Rattle.std.proofs.lemmas.Result.{err_from_is_err_and}
 use Rattle.std.proofs.lemmas.List.{length-map}
 use Rattle.rtgs_book.specs.declared.book.Book.{Book}
 use Rattle.rtgs_book.specs.declared.order.Order.{Order}
-use Rattle.rtgs_book.specs.Commands.{settles_now}
+use Rattle.rtgs_book.specs.Commands.{as_sent, settles_now}
 use Rattle.rtgs_book.specs.Queue.{queue, queued_among}
 use Rattle.rtgs_ledger.specs.Ordering.{IsTaken}
 use Rattle.rtgs_ledger.proofs.Ordering.{prepared_waiting, taken_acts}
@@ -18,7 +18,7 @@ returns-clause-prepared c book is taken waits =
     let w = whole book r in
     let o = c.args.order in
     let taken_here = subst (λ (b : Book). IsTaken b o) (sym of.same) taken in
-    let waits_here = subst (λ (b : Book). settles_now b o.sender o.amount o.due ≡ false) (sym of.same) waits in
+    let waits_here = subst (λ (b : Book). settles_now b o.sender (as_sent o) ≡ false) (sym of.same) waits in
     let place : length c.queue.result.now ≡ length (queue (book_of w) o.sender) = ap length c.queue.ensures.numbers
     ∙ length-map (queued_among r.orders.orders o.sender) (λ (x : Order). x.number)
     ∙ ap length (queue_is c.queues_are_of_the_waiting.ensures (book_of w) r.orders.orders o.sender of.waiting) in

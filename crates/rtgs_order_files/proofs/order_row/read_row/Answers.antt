@@ -1,6 +1,6 @@
 use Rattle.std.proofs.Common.{◌∷◌, decimal, refl, ap, ◌∙◌}
 use Rattle.rtgs_order_files.proofs.DueFields.{as_field}
-use Rattle.rtgs_order_files.proofs.order_row.OrderRow.read.Goals as goal
+use Rattle.rtgs_order_files.proofs.order_row.read_row.Goals as goal
 
 pub returns-in_err-reference-clause-found : goal.returns-in_err-reference-clause-found
 returns-in_err-reference-clause-found c row good e =
