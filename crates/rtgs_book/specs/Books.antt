@@ -6,6 +6,7 @@ pub use Rattle.rtgs_book.specs.declared.phase.Phase.{Phase}
 pub use Rattle.rtgs_book.specs.declared.phase.Phase.TheVariants.{Closed, Open, CutOff}
 pub use Rattle.rtgs_book.specs.declared.participant.Participant.{Participant}
 pub use Rattle.rtgs_book.specs.declared.posting.Posting.{Posting}
+pub use Rattle.rtgs_book.specs.declared.new_day.NewDay.{NewDay}
 pub use Rattle.rtgs_book.specs.declared.new_order.NewOrder.{NewOrder}
 pub use Rattle.rtgs_book.specs.declared.order.Order.{Order}
 pub use Rattle.rtgs_book.specs.declared.mark.Mark.{Mark}

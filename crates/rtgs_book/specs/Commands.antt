@@ -17,9 +17,9 @@ use Rattle.rtgs_book.specs.declared.refusal.Refusal.TheVariants.{WrongDate, Week
 use Rattle.rtgs_book.specs.declared.refusal.Refusal.TheVariants.{DueNotLater}
 use Rattle.rtgs_book.specs.declared.limits.TheConstants.{MOST_PARTICIPANTS, LONGEST_QUEUE, LARGEST_NUMBER}
 use Rattle.rtgs_book.specs.declared.limits.TheConstants.{LARGEST_TOTAL}
-use Rattle.rtgs_book.specs.Books.{Book, Day, Closed, Open, CutOff, Participant, Posting, Order, NewOrder, OrderState}
-use Rattle.rtgs_book.specs.Books.{Queued, Held, Withdrawn, Rejected, is_closed, is_open, is_cut_off, is_queued, is_held}
-use Rattle.rtgs_book.specs.Books.{is_waiting, is_withdrawn_state, is_empty}
+use Rattle.rtgs_book.specs.Books.{Book, Day, NewDay, Closed, Open, CutOff, Participant, Posting, Order, NewOrder}
+use Rattle.rtgs_book.specs.Books.{OrderState, Queued, Held, Withdrawn, Rejected, is_closed, is_open, is_cut_off, is_queued}
+use Rattle.rtgs_book.specs.Books.{is_held, is_waiting, is_withdrawn_state, is_empty}
 use Rattle.rtgs_book.specs.Lookup.{has_code, accounts, participant_of, is_participant, order_named, posting_named}
 use Rattle.rtgs_book.specs.Balance.{balance, floor, total}
 use Rattle.rtgs_book.specs.Queue.{queue, waiting}
@@ -291,16 +291,19 @@ abbrev pub has_choice : Bool → Day → Bool
 has_choice true day = day.automatic
 has_choice false day = not day.automatic
 
-unfoldable pub open_day : Book → ℕ → Bool → Outcome
-open_day book date automatic =
+-- the day as it stands once it is opened
+abbrev pub opened_day : NewDay → Day
+opened_day new_day = record { date = Some new_day.date; phase = Open; automatic = new_day.automatic }
+
+unfoldable pub open_day : Book → NewDay → Outcome
+open_day book new_day =
     first_of book (
-    (is_open book.day.phase && is_on book date && has_choice automatic book.day, repeated)
+    (is_open book.day.phase && is_on book new_day.date && has_choice new_day.automatic book.day, repeated)
     ∷ (not (is_closed book.day.phase), Err WrongPhase)
-    ∷ (not (is_later date book.day.date), Err WrongDate)
-    ∷ (is_weekend date, Err Weekend)
+    ∷ (not (is_later new_day.date book.day.date), Err WrongDate)
+    ∷ (is_weekend new_day.date, Err Weekend)
     ∷ []
-    ) (accepts answer.Opened
-    (with_day (let_in book (is_due date) date) (record { date = Some date; phase = Open; automatic = automatic })))
+    ) (accepts answer.Opened (with_day (let_in book (is_due new_day.date) new_day.date) (opened_day new_day)))
 
 unfoldable pub cut_off : Book → ℕ → Outcome
 cut_off book date =

@@ -5,6 +5,7 @@
 //! says that the amounts of a command are in their ranges. Whether it comes again as a repeat stands in `Lasting.antt`
 //! of `rtgs_laws::repeats`, and who may send it in `Access.antt` of `rtgs_http_requests` and the routes of its module
 //! `heads`.
+use crate::new_day::NewDay;
 use crate::new_order::NewOrder;
 use rtgs_money::{BusinessDate, Code, Credit, KeyDigest, Name, PostingAmount, Reference};
 
@@ -30,10 +31,7 @@ pub enum Command {
     },
     /// Opens the business day, and lets the held orders into their queues that are due by its date.
     /// On an automatic day a resolution follows each command that may let orders settle.
-    OpenDay {
-        date: BusinessDate,
-        automatic: bool,
-    },
+    OpenDay(NewDay),
     /// Pays, at once or after the orders that are queued; with a due date, not before that date.
     Order {
         sender: Code,

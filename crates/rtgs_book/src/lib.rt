@@ -14,6 +14,7 @@ mod fault;
 pub mod laws;
 mod limits;
 mod mark;
+mod new_day;
 mod new_order;
 mod order;
 mod order_state;
@@ -39,6 +40,7 @@ pub use crate::limits::{
     LARGEST_BALANCE, LARGEST_NUMBER, LARGEST_TOTAL, LONGEST_QUEUE, MOST_PARTICIPANTS, MOST_QUEUED,
 };
 pub use crate::mark::Mark;
+pub use crate::new_day::NewDay;
 pub use crate::new_order::NewOrder;
 pub use crate::order::Order;
 pub use crate::order_state::OrderState;

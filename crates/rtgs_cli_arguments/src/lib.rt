@@ -23,6 +23,7 @@ mod serving;
 mod version;
 
 pub use crate::asked::Asked;
+pub use crate::requests::{CommandWords, ReadingWords, Request, Words};
 
 /// The book's file, which each subcommand takes first.
 fn file_argument<'a>(alloc: Global) -> Arg<'a>
@@ -253,5 +254,3 @@ pub fn read_words<'a>(alloc: Global, words: &'a [&'a str]) -> Result<Option<Aske
     let matches = desk_command(alloc)?.try_get_matches_from(words)?;
     asked_of(alloc, &matches)
 }
-
-pub use crate::requests::{CommandWords, ReadingWords, Request, Words};

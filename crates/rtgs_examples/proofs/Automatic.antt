@@ -1,13 +1,14 @@
 -- The examples of automatic days, computed.
 use Rattle.std.proofs.Common.{pos, [], ◌∷◌, true, Some, None, Ok, codes, refl, inl, inr}
-use Rattle.rtgs_book.specs.declared.command.Command.TheVariants.{Post, OpenDay, Resolve, CutOff, CloseDay}
+use Rattle.rtgs_book.specs.declared.command.Command.TheVariants.{Post, Resolve, CutOff, CloseDay}
 use Rattle.rtgs_book.specs.declared.answer.Answer.TheVariants as answer
 use Rattle.rtgs_book.specs.declared.book.Book.{Book}
 use Rattle.rtgs_book.specs.Choice.{Choice, IsGreatest}
 use Rattle.rtgs_book.specs.Commands.{order, resolve, post, open_day, cut_off, close_day}
 use Rattle.rtgs_book.specs.Outcome.{Outcome, alone}
 use Rattle.rtgs_book.specs.Procedure.{everything, taken_back, All, Without_newest}
-use Rattle.rtgs_examples.specs.Examples.{alfa, beta, gama, monday, tuesday, start, automatic_start, pays, pays_on}
+use Rattle.rtgs_examples.specs.Examples.{alfa, beta, gama, monday, tuesday, start, automatic_start, opens, new_day}
+use Rattle.rtgs_examples.specs.Examples.{pays, pays_on}
 use Rattle.rtgs_examples.specs.Examples.{says, and_settles, ComesWholeFrom}
 use Rattle.rtgs_examples.proofs.Computed.{computed, FindsGreatest}
 
@@ -180,7 +181,7 @@ abbrev due_4 : Outcome
 due_4 = close_day due_3.book due_4_choice monday
 
 abbrev due_5 : Outcome
-due_5 = open_day due_4.book tuesday true
+due_5 = open_day due_4.book (new_day tuesday true)
 
 abbrev due_5_choice : Choice
 due_5_choice = everything due_5.book
@@ -196,7 +197,7 @@ due_resolved = (resolve due_5.book due_5_choice).book
 
 pub due_order_settles_at_the_opening_comes : FindsGreatest → ComesWholeFrom start
     (Post alfa (codes "P-1") (pos 60) ∷ pays_on tuesday alfa beta 60 (codes "A-1") ∷ CutOff monday ∷ CloseDay monday
-    ∷ OpenDay tuesday true ∷ [])
+    ∷ opens tuesday true ∷ [])
     (alone (Ok (answer.Posted 1)) ∷ alone (Ok (answer.Held 1 tuesday)) ∷ alone (Ok answer.CutOffDone)
     ∷ alone (Ok (answer.Closed 0)) ∷ and_settles (Ok answer.Opened) 1 1 (pos 60) ∷ [])
     (pos 0 ∷ pos 60 ∷ pos 0 ∷ [])

@@ -2,7 +2,7 @@
 use Rattle.std.proofs.Common.{pos, ◌≤ℤ◌, negsuc, false, List, [], ◌∷◌, None, Ok, Err, codes, refl, inl, inr}
 use Rattle.std.specs.Bool.{⊤}
 use Rattle.std.specs.List.{AllByRecursion}
-use Rattle.rtgs_book.specs.declared.command.Command.TheVariants.{SetCredit, Post, OpenDay, Withdraw, Resolve, CutOff}
+use Rattle.rtgs_book.specs.declared.command.Command.TheVariants.{SetCredit, Post, Withdraw, Resolve, CutOff}
 use Rattle.rtgs_book.specs.declared.command.Command.TheVariants.{CloseDay}
 use Rattle.rtgs_book.specs.declared.answer.Answer.TheVariants as answer
 use Rattle.rtgs_book.specs.declared.answer.Known.TheVariants as known
@@ -22,7 +22,8 @@ use Rattle.rtgs_book.specs.Commands.{order, takes, settles_at_once, resolve, set
 use Rattle.rtgs_book.specs.Commands.{open_day, cut_off, close_day, with_credit, with_state, overdrawn}
 use Rattle.rtgs_book.specs.Procedure.{everything, taken_back, Reaches, All, Without_newest}
 use Rattle.rtgs_examples.proofs.WholeRuns.{as_whole_run}
-use Rattle.rtgs_examples.specs.Examples.{alfa, beta, gama, zeta, monday, start, unopened, says, pays, Comes}
+use Rattle.rtgs_examples.specs.Examples.{alfa, beta, gama, zeta, monday, start, unopened, says, opens, new_day, pays}
+use Rattle.rtgs_examples.specs.Examples.{Comes}
 use Rattle.rtgs_examples.specs.Examples.{ComesFrom}
 
 -- All that the examples compute with, named once: a proof that names this one unfolds them all.
@@ -130,22 +131,22 @@ abbrev deadlock_6 : Book
 deadlock_6 = (close_day deadlock_5 deadlock_6_choice monday).book
 
 abbrev deadlock_7 : Book
-deadlock_7 = (open_day deadlock_6 20240309 false).book
+deadlock_7 = (open_day deadlock_6 (new_day 20240309 false)).book
 
 abbrev deadlock_8 : Book
-deadlock_8 = (open_day deadlock_7 20240304 false).book
+deadlock_8 = (open_day deadlock_7 (new_day 20240304 false)).book
 
 abbrev deadlock_9 : Book
-deadlock_9 = (open_day deadlock_8 20240305 false).book
+deadlock_9 = (open_day deadlock_8 (new_day 20240305 false)).book
 
 abbrev deadlock_10 : Book
-deadlock_10 = (open_day deadlock_9 20240305 false).book
+deadlock_10 = (open_day deadlock_9 (new_day 20240305 false)).book
 
 abbrev deadlock_commands : List Command
 deadlock_commands =
     pays alfa beta 100 (codes "A-1") ∷ pays beta gama 90 (codes "B-1") ∷ Resolve ∷ CutOff monday ∷ CloseDay monday
-    ∷ CloseDay monday ∷ OpenDay 20240309 false ∷ OpenDay 20240304 false ∷ OpenDay 20240305 false
-    ∷ OpenDay 20240305 false ∷ []
+    ∷ CloseDay monday ∷ opens 20240309 false ∷ opens 20240304 false ∷ opens 20240305 false
+    ∷ opens 20240305 false ∷ []
 
 abbrev deadlock_replies : List OwnReply
 deadlock_replies =
@@ -591,7 +592,7 @@ abbrev first_day_3 : Book
 first_day_3 = (order first_day_2 alfa (says (codes "A-1") beta 1 None)).book
 
 abbrev first_day_4 : Book
-first_day_4 = (open_day first_day_3 monday false).book
+first_day_4 = (open_day first_day_3 (new_day monday false)).book
 
 abbrev first_day_5 : Book
 first_day_5 = (order first_day_4 alfa (says (codes "A-1") alfa 1 None)).book
@@ -604,7 +605,7 @@ first_day_7 = (order first_day_6 zeta (says (codes "Z-1") alfa 1 None)).book
 
 abbrev first_day_commands : List Command
 first_day_commands =
-    CloseDay monday ∷ Resolve ∷ pays alfa beta 1 (codes "A-1") ∷ OpenDay monday false ∷ pays alfa alfa 1 (codes "A-1")
+    CloseDay monday ∷ Resolve ∷ pays alfa beta 1 (codes "A-1") ∷ opens monday false ∷ pays alfa alfa 1 (codes "A-1")
     ∷ pays alfa zeta 1 (codes "A-1") ∷ pays zeta alfa 1 (codes "Z-1") ∷ []
 
 abbrev first_day_replies : List OwnReply

@@ -1,6 +1,6 @@
 -- The examples of orders for a later date, computed.
 use Rattle.std.proofs.Common.{pos, false, List, [], ◌∷◌, Some, None, Ok, Err, codes, refl, inl}
-use Rattle.rtgs_book.specs.declared.command.Command.TheVariants.{Post, OpenDay, Withdraw, Resolve, CutOff, CloseDay}
+use Rattle.rtgs_book.specs.declared.command.Command.TheVariants.{Post, Withdraw, Resolve, CutOff, CloseDay}
 use Rattle.rtgs_book.specs.declared.answer.Answer.TheVariants as answer
 use Rattle.rtgs_book.specs.declared.answer.Known.TheVariants as known
 use Rattle.rtgs_book.specs.declared.refusal.Refusal.TheVariants as refusal
@@ -12,7 +12,7 @@ use Rattle.rtgs_book.specs.Choice.{Choice, IsGreatest}
 use Rattle.rtgs_book.specs.Commands.{order, resolve, post, withdraw, open_day, cut_off, close_day}
 use Rattle.rtgs_book.specs.Procedure.{everything, taken_back, All, Without_newest}
 use Rattle.rtgs_examples.specs.Examples.{alfa, beta, gama, zeta, monday, tuesday, wednesday, thursday, saturday}
-use Rattle.rtgs_examples.specs.Examples.{start, says, pays, pays_on, Comes, LeavesQueue, LeavesDates}
+use Rattle.rtgs_examples.specs.Examples.{start, says, opens, new_day, pays, pays_on, Comes, LeavesQueue, LeavesDates}
 use Rattle.rtgs_examples.proofs.WholeRuns.{as_whole_run}
 use Rattle.rtgs_examples.proofs.Computed.{computed, FindsGreatest}
 
@@ -55,7 +55,7 @@ abbrev due_9 : Book
 due_9 = (close_day due_8 due_9_choice monday).book
 
 abbrev due_10 : Book
-due_10 = (open_day due_9 tuesday false).book
+due_10 = (open_day due_9 (new_day tuesday false)).book
 
 abbrev due_11 : Book
 due_11 = (order due_10 alfa (says (codes "A-3") gama 10 None)).book
@@ -92,7 +92,7 @@ due_order_commands =
     Post alfa (codes "P-1") (pos 100) ∷ pays_on tuesday alfa beta 60 (codes "A-1") ∷ pays alfa beta 50 (codes "A-2")
     ∷ pays_on tuesday alfa beta 60 (codes "A-1") ∷ pays alfa beta 60 (codes "A-1")
     ∷ pays_on monday alfa beta 60 (codes "A-3") ∷ pays_on saturday alfa beta 60 (codes "A-3") ∷ CutOff monday
-    ∷ CloseDay monday ∷ OpenDay tuesday false ∷ pays alfa gama 10 (codes "A-3") ∷ Resolve
+    ∷ CloseDay monday ∷ opens tuesday false ∷ pays alfa gama 10 (codes "A-3") ∷ Resolve
     ∷ Post alfa (codes "P-2") (pos 10) ∷ Resolve ∷ []
 
 abbrev due_order_replies : List OwnReply
@@ -191,7 +191,7 @@ due_order_enters_its_queue_commands =
     Post alfa (codes "P-1") (pos 100) ∷ pays_on tuesday alfa beta 60 (codes "A-1") ∷ pays alfa beta 50 (codes "A-2")
     ∷ pays_on tuesday alfa beta 60 (codes "A-1") ∷ pays alfa beta 60 (codes "A-1")
     ∷ pays_on monday alfa beta 60 (codes "A-3") ∷ pays_on saturday alfa beta 60 (codes "A-3") ∷ CutOff monday
-    ∷ CloseDay monday ∷ OpenDay tuesday false ∷ []
+    ∷ CloseDay monday ∷ opens tuesday false ∷ []
 
 abbrev due_order_enters_its_queue_replies : List OwnReply
 due_order_enters_its_queue_replies =
@@ -268,7 +268,7 @@ abbrev late_5 : Book
 late_5 = (close_day late_4 late_5_choice monday).book
 
 abbrev late_6 : Book
-late_6 = (open_day late_5 wednesday false).book
+late_6 = (open_day late_5 (new_day wednesday false)).book
 
 abbrev late_7 : Book
 late_7 = (order late_6 alfa (says (codes "A-2") beta 20 (Some thursday))).book
@@ -279,7 +279,7 @@ late_8 = (order late_7 alfa (says (codes "A-3") gama 30 (Some tuesday))).book
 abbrev later_order_stays_held_commands : List Command
 later_order_stays_held_commands =
     pays_on wednesday alfa beta 10 (codes "A-1") ∷ pays_on thursday alfa beta 20 (codes "A-2")
-    ∷ pays_on tuesday alfa gama 30 (codes "A-3") ∷ CutOff monday ∷ CloseDay monday ∷ OpenDay wednesday false
+    ∷ pays_on tuesday alfa gama 30 (codes "A-3") ∷ CutOff monday ∷ CloseDay monday ∷ opens wednesday false
     ∷ pays_on thursday alfa beta 20 (codes "A-2") ∷ pays_on tuesday alfa gama 30 (codes "A-3") ∷ []
 
 abbrev later_order_stays_held_replies : List OwnReply
@@ -323,7 +323,7 @@ later_order_stays_held_comes law = (
 abbrev entered_order_has_the_date_commands : List Command
 entered_order_has_the_date_commands =
     pays_on wednesday alfa beta 10 (codes "A-1") ∷ pays_on thursday alfa beta 20 (codes "A-2")
-    ∷ pays_on tuesday alfa gama 30 (codes "A-3") ∷ CutOff monday ∷ CloseDay monday ∷ OpenDay wednesday false ∷ []
+    ∷ pays_on tuesday alfa gama 30 (codes "A-3") ∷ CutOff monday ∷ CloseDay monday ∷ opens wednesday false ∷ []
 
 abbrev entered_order_has_the_date_replies : List OwnReply
 entered_order_has_the_date_replies =
@@ -547,14 +547,14 @@ abbrev withdrawn_9 : Book
 withdrawn_9 = (withdraw withdrawn_8 alfa (codes "A-3")).book
 
 abbrev withdrawn_10 : Book
-withdrawn_10 = (open_day withdrawn_9 tuesday false).book
+withdrawn_10 = (open_day withdrawn_9 (new_day tuesday false)).book
 
 abbrev held_orders_are_withdrawn_commands : List Command
 held_orders_are_withdrawn_commands =
     pays_on tuesday alfa beta 10 (codes "A-1") ∷ pays_on tuesday alfa beta 20 (codes "A-2")
     ∷ pays_on tuesday alfa beta 30 (codes "A-3") ∷ Withdraw alfa (codes "A-1") ∷ CutOff monday
     ∷ Withdraw alfa (codes "A-2") ∷ CloseDay monday ∷ Withdraw alfa (codes "A-3") ∷ Withdraw alfa (codes "A-3")
-    ∷ OpenDay tuesday false ∷ []
+    ∷ opens tuesday false ∷ []
 
 abbrev held_orders_are_withdrawn_replies : List OwnReply
 held_orders_are_withdrawn_replies =
@@ -693,7 +693,7 @@ abbrev idle_4 : Book
 idle_4 = (close_day idle_3 idle_4_choice monday).book
 
 abbrev idle_5 : Book
-idle_5 = (open_day idle_4 tuesday false).book
+idle_5 = (open_day idle_4 (new_day tuesday false)).book
 
 abbrev idle_6 : Book
 idle_6 = (order idle_5 alfa (says (codes "A-1") beta 60 (Some tuesday))).book
@@ -716,7 +716,7 @@ idle_8 = (order idle_7 alfa (says (codes "A-1") beta 60 (Some tuesday))).book
 abbrev due_order_waits_to_be_resolved_commands : List Command
 due_order_waits_to_be_resolved_commands =
     Post alfa (codes "P-1") (pos 60) ∷ pays_on tuesday alfa beta 60 (codes "A-1") ∷ CutOff monday ∷ CloseDay monday
-    ∷ OpenDay tuesday false ∷ pays_on tuesday alfa beta 60 (codes "A-1") ∷ Resolve
+    ∷ opens tuesday false ∷ pays_on tuesday alfa beta 60 (codes "A-1") ∷ Resolve
     ∷ pays_on tuesday alfa beta 60 (codes "A-1") ∷ []
 
 abbrev due_order_waits_to_be_resolved_replies : List OwnReply

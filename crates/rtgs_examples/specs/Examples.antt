@@ -1,8 +1,9 @@
 -- Worked examples: three banks with no credit on Monday 2024-03-04.
-use Rattle.std.specs.Prelude.{◌≡◌, ℕ, ℤ, true, false, List, [], ◌∷◌, map, Option, Some, None, replicate}
+use Rattle.std.specs.Prelude.{◌≡◌, ℕ, ℤ, Bool, true, false, List, [], ◌∷◌, map, Option, Some, None, replicate}
 use Rattle.std.specs.Prelude.{codes}
-use Rattle.rtgs_book.specs.declared.command.Command.TheVariants.{Order}
+use Rattle.rtgs_book.specs.declared.command.Command.TheVariants.{OpenDay, Order}
 use Rattle.rtgs_book.specs.declared.book.Book.{Book}
+use Rattle.rtgs_book.specs.declared.new_day.NewDay.{NewDay}
 use Rattle.rtgs_book.specs.declared.new_order.NewOrder.{NewOrder}
 use Rattle.rtgs_book.specs.declared.order.Order.{Order as OrderRecord}
 use Rattle.rtgs_book.specs.declared.participant.Participant.{Participant}
@@ -44,6 +45,13 @@ thursday = 20240307
 -- the weekend after it begins
 abbrev pub saturday : ℕ
 saturday = 20240309
+
+-- the day of this date, with this choice
+abbrev pub new_day : ℕ → Bool → NewDay
+new_day date automatic = record { date = date; automatic = automatic }
+
+abbrev pub opens : ℕ → Bool → Command
+opens date automatic = OpenDay (new_day date automatic)
 
 abbrev pub bank : List ℕ → List ℕ → ℕ → Participant
 bank code name key = record { code = code; name = name; key = replicate 32 key; credit = 0 }

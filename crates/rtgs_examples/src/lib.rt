@@ -4,7 +4,7 @@
 ghost use Rattle.std.specs.Prelude.{[], ◌∷◌, ◌++◌, pos, negsuc, true, false, Ok, Err, codes};
 ghost use Rattle.rtgs_examples.specs.Examples.{alfa, beta, gama, zeta, monday, tuesday, wednesday, thursday, saturday};
 ghost use Rattle.rtgs_book.specs.Outcome.{alone};
-ghost use Rattle.rtgs_examples.specs.Examples.{start, automatic_start, unopened, pays, pays_on, and_settles};
+ghost use Rattle.rtgs_examples.specs.Examples.{start, automatic_start, unopened, opens, pays, pays_on, and_settles};
 ghost use Rattle.rtgs_examples.specs.Examples.{Comes, ComesFrom, ComesWholeFrom, LeavesQueue, LeavesDates};
 
 use rtgs_book::laws::procedure_finds_the_greatest;
@@ -27,8 +27,8 @@ pub fn ring()
 pub fn deadlock()
     ensures { Comes
         (pays alfa beta 100 (codes "A-1") ∷ pays beta gama 90 (codes "B-1") ∷ Command.Resolve ∷ Command.CutOff monday
-        ∷ Command.CloseDay monday ∷ Command.CloseDay monday ∷ Command.OpenDay 20240309 false
-        ∷ Command.OpenDay 20240304 false ∷ Command.OpenDay 20240305 false ∷ Command.OpenDay 20240305 false ∷ [])
+        ∷ Command.CloseDay monday ∷ Command.CloseDay monday ∷ opens 20240309 false
+        ∷ opens 20240304 false ∷ opens 20240305 false ∷ opens 20240305 false ∷ [])
         (Ok (Answer.Queued 1 1) ∷ Ok (Answer.Queued 2 1) ∷ Ok Answer.Nothing ∷ Ok Answer.CutOffDone
         ∷ Ok (Answer.Closed 2) ∷ Ok (Answer.Repeated Known.Nothing) ∷ Err Refusal.Weekend ∷ Err Refusal.WrongDate
         ∷ Ok Answer.Opened ∷ Ok (Answer.Repeated Known.Nothing) ∷ [])
@@ -148,7 +148,7 @@ pub fn close_with_overdraft()
 /// Before the first day nothing is closed, resolved or paid. From then on an order is between two participants.
 pub fn first_day()
     ensures { ComesFrom unopened
-        (Command.CloseDay monday ∷ Command.Resolve ∷ pays alfa beta 1 (codes "A-1") ∷ Command.OpenDay monday false
+        (Command.CloseDay monday ∷ Command.Resolve ∷ pays alfa beta 1 (codes "A-1") ∷ opens monday false
         ∷ pays alfa alfa 1 (codes "A-1") ∷ pays alfa zeta 1 (codes "A-1") ∷ pays zeta alfa 1 (codes "Z-1") ∷ [])
         (Err Refusal.WrongPhase ∷ Err Refusal.WrongPhase ∷ Err Refusal.NotOpen ∷ Ok Answer.Opened
         ∷ Err Refusal.SameParty ∷ Err Refusal.UnknownReceiver ∷ Err Refusal.UnknownParticipant ∷ [])
@@ -164,7 +164,7 @@ pub fn due_order()
         ∷ pays alfa beta 50 (codes "A-2") ∷ pays_on tuesday alfa beta 60 (codes "A-1")
         ∷ pays alfa beta 60 (codes "A-1") ∷ pays_on monday alfa beta 60 (codes "A-3")
         ∷ pays_on saturday alfa beta 60 (codes "A-3") ∷ Command.CutOff monday ∷ Command.CloseDay monday
-        ∷ Command.OpenDay tuesday false ∷ pays alfa gama 10 (codes "A-3") ∷ Command.Resolve
+        ∷ opens tuesday false ∷ pays alfa gama 10 (codes "A-3") ∷ Command.Resolve
         ∷ Command.Post alfa (codes "P-2") (pos 10) ∷ Command.Resolve ∷ [])
         (Ok (Answer.Posted 1) ∷ Ok (Answer.Held 1 tuesday) ∷ Ok (Answer.Settled 2 1)
         ∷ Ok (Answer.Repeated (Known.Order 1 OrderState.Held)) ∷ Err Refusal.ReferenceUsed ∷ Err Refusal.DueNotLater
@@ -191,7 +191,7 @@ pub fn due_order_enters_its_queue()
         ∷ pays alfa beta 50 (codes "A-2") ∷ pays_on tuesday alfa beta 60 (codes "A-1")
         ∷ pays alfa beta 60 (codes "A-1") ∷ pays_on monday alfa beta 60 (codes "A-3")
         ∷ pays_on saturday alfa beta 60 (codes "A-3") ∷ Command.CutOff monday ∷ Command.CloseDay monday
-        ∷ Command.OpenDay tuesday false ∷ [])
+        ∷ opens tuesday false ∷ [])
         (Ok (Answer.Posted 1) ∷ Ok (Answer.Held 1 tuesday) ∷ Ok (Answer.Settled 2 1)
         ∷ Ok (Answer.Repeated (Known.Order 1 OrderState.Held)) ∷ Err Refusal.ReferenceUsed ∷ Err Refusal.DueNotLater
         ∷ Err Refusal.Weekend ∷ Ok Answer.CutOffDone ∷ Ok (Answer.Closed 0) ∷ Ok Answer.Opened ∷ [])
@@ -205,7 +205,7 @@ pub fn later_order_stays_held()
     ensures { LeavesQueue
         (pays_on wednesday alfa beta 10 (codes "A-1") ∷ pays_on thursday alfa beta 20 (codes "A-2")
         ∷ pays_on tuesday alfa gama 30 (codes "A-3") ∷ Command.CutOff monday ∷ Command.CloseDay monday
-        ∷ Command.OpenDay wednesday false ∷ pays_on thursday alfa beta 20 (codes "A-2")
+        ∷ opens wednesday false ∷ pays_on thursday alfa beta 20 (codes "A-2")
         ∷ pays_on tuesday alfa gama 30 (codes "A-3") ∷ [])
         (Ok (Answer.Held 1 wednesday) ∷ Ok (Answer.Held 2 thursday) ∷ Ok (Answer.Held 3 tuesday)
         ∷ Ok Answer.CutOffDone ∷ Ok (Answer.Closed 0) ∷ Ok Answer.Opened
@@ -221,7 +221,7 @@ pub fn entered_order_has_the_date()
     ensures { LeavesDates
         (pays_on wednesday alfa beta 10 (codes "A-1") ∷ pays_on thursday alfa beta 20 (codes "A-2")
         ∷ pays_on tuesday alfa gama 30 (codes "A-3") ∷ Command.CutOff monday ∷ Command.CloseDay monday
-        ∷ Command.OpenDay wednesday false ∷ [])
+        ∷ opens wednesday false ∷ [])
         (Ok (Answer.Held 1 wednesday) ∷ Ok (Answer.Held 2 thursday) ∷ Ok (Answer.Held 3 tuesday)
         ∷ Ok Answer.CutOffDone ∷ Ok (Answer.Closed 0) ∷ Ok Answer.Opened ∷ [])
         (wednesday ∷ thursday ∷ wednesday ∷ []) }
@@ -270,7 +270,7 @@ pub fn held_orders_are_withdrawn()
         (pays_on tuesday alfa beta 10 (codes "A-1") ∷ pays_on tuesday alfa beta 20 (codes "A-2")
         ∷ pays_on tuesday alfa beta 30 (codes "A-3") ∷ Command.Withdraw alfa (codes "A-1") ∷ Command.CutOff monday
         ∷ Command.Withdraw alfa (codes "A-2") ∷ Command.CloseDay monday ∷ Command.Withdraw alfa (codes "A-3")
-        ∷ Command.Withdraw alfa (codes "A-3") ∷ Command.OpenDay tuesday false ∷ [])
+        ∷ Command.Withdraw alfa (codes "A-3") ∷ opens tuesday false ∷ [])
         (Ok (Answer.Held 1 tuesday) ∷ Ok (Answer.Held 2 tuesday) ∷ Ok (Answer.Held 3 tuesday)
         ∷ Ok (Answer.Withdrawn 1) ∷ Ok Answer.CutOffDone ∷ Ok (Answer.Withdrawn 2) ∷ Ok (Answer.Closed 0)
         ∷ Ok (Answer.Withdrawn 3) ∷ Ok (Answer.Repeated (Known.Order 3 OrderState.Withdrawn)) ∷ Ok Answer.Opened ∷ [])
@@ -296,7 +296,7 @@ pub fn close_leaves_held_orders()
 pub fn due_order_waits_to_be_resolved()
     ensures { Comes
         (Command.Post alfa (codes "P-1") (pos 60) ∷ pays_on tuesday alfa beta 60 (codes "A-1")
-        ∷ Command.CutOff monday ∷ Command.CloseDay monday ∷ Command.OpenDay tuesday false
+        ∷ Command.CutOff monday ∷ Command.CloseDay monday ∷ opens tuesday false
         ∷ pays_on tuesday alfa beta 60 (codes "A-1") ∷ Command.Resolve ∷ pays_on tuesday alfa beta 60 (codes "A-1")
         ∷ [])
         (Ok (Answer.Posted 1) ∷ Ok (Answer.Held 1 tuesday) ∷ Ok Answer.CutOffDone ∷ Ok (Answer.Closed 0)
@@ -336,7 +336,7 @@ pub fn order_frees_another()
 pub fn due_order_settles_at_the_opening()
     ensures { ComesWholeFrom start
         (Command.Post alfa (codes "P-1") (pos 60) ∷ pays_on tuesday alfa beta 60 (codes "A-1")
-        ∷ Command.CutOff monday ∷ Command.CloseDay monday ∷ Command.OpenDay tuesday true ∷ [])
+        ∷ Command.CutOff monday ∷ Command.CloseDay monday ∷ opens tuesday true ∷ [])
         (alone (Ok (Answer.Posted 1)) ∷ alone (Ok (Answer.Held 1 tuesday)) ∷ alone (Ok Answer.CutOffDone)
         ∷ alone (Ok (Answer.Closed 0)) ∷ and_settles (Ok Answer.Opened) 1 1 (pos 60) ∷ [])
         (pos 0 ∷ pos 60 ∷ pos 0 ∷ []) }

@@ -214,7 +214,10 @@ dated_answered parameter asked =
     (λ date. value_answered (asked date))
 
 opening_answered : (values : List ℕ × Bool) → HasAnswer (SpellsOpening values)
-opening_answered (text, automatic) = dated_answered text (λ date. Submit (command.OpenDay date automatic))
+opening_answered (text, automatic) = dated_answered text (λ date. Submit (command.OpenDay (record {
+  date = date;
+  automatic = automatic;
+})))
 
 referred_answered : (parameter : List ℕ) (asked : List ℕ → Asked)
     → HasAnswer (Then (SpellsReference parameter) (λ reference (outcome : Answer). outcome ≡ Ok (asked reference)))

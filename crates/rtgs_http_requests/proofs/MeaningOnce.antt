@@ -79,7 +79,10 @@ day_once laws body answer =
     (spelt_once HasDate (λ text. SpellsDate text) body one_date (date_once laws)) (equal_once answer)
 
 opening_once : LowerLaws → (values : List ℕ × Bool) → IsDetermined (SpellsOpening values)
-opening_once laws (text, automatic) = dated_once laws text (λ date. Ok (Submit (command.OpenDay date automatic)))
+opening_once laws (text, automatic) = dated_once laws text (λ date. Ok (Submit (command.OpenDay (record {
+  date = date;
+  automatic = automatic;
+}))))
 
 withdrawal_once : (caller parameter body : List ℕ) → IsDetermined (MeansBank WithdrawOrder caller parameter body)
 withdrawal_once caller parameter body =

@@ -122,7 +122,10 @@ AsksDay body = Then (ReadsJson body) (λ value. Then (FindsContent HasDate value
 -- the opening of the day of this date, with this choice
 abbrev pub SpellsOpening : List ℕ × Bool → Answer → Type 0
 SpellsOpening (text, automatic) =
-    Then (SpellsDate text) (λ date answer. answer ≡ Ok (Submit (command.OpenDay date automatic)))
+    Then (SpellsDate text) (λ date answer. answer ≡ Ok (Submit (command.OpenDay (record {
+      date = date;
+      automatic = automatic;
+    }))))
 
 abbrev pub AsksOpening : List ℕ → Answer → Type 0
 AsksOpening body =

@@ -9,7 +9,7 @@ use crate::contents::{credit_of, date_of, is_nothing, opening_of, posting_of};
 use crate::heads::OperatorRoute;
 use crate::http_fault::HttpFault;
 use crate::spelling::{posting_amount, spell_date};
-use rtgs_book::{Command, Reading};
+use rtgs_book::{Command, NewDay, Reading};
 use rtgs_money::{BusinessDate, Code, Credit, Lexical, Reference};
 use std::alloc::Global;
 
@@ -95,7 +95,7 @@ fn spell_opening(date: &str, automatic: bool) -> Result<Asked, HttpFault>
     ensures { SpellsOpening (date.now, automatic) result }
 {
     let date = spell_date(date)?;
-    Ok(Asked::Submit(Command::OpenDay { date, automatic }))
+    Ok(Asked::Submit(Command::OpenDay(NewDay { date, automatic })))
 }
 
 // The date that a body names.

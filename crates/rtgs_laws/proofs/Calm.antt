@@ -205,7 +205,7 @@ own_quiet old new (SetCredit code credit) reply s q =
     quiet_first old _ _ (record { reply = reply; book = new }) refl s q
 own_quiet old new (Post code reference cents) reply s q =
     quiet_first old _ _ (record { reply = reply; book = new }) refl s q
-own_quiet old new (OpenDay date automatic) reply s q =
+own_quiet old new (OpenDay new_day) reply s q =
     quiet_first old _ _ (record { reply = reply; book = new }) refl s q
 own_quiet old new (PlaceOrder sender new_order) reply s q = quiet_first old _ _
     (record { reply = reply; book = new }) (taken_done old (taken_order old sender new_order) new_order.due) s q
@@ -345,7 +345,7 @@ module _ (laws : BookLaws) (beginnings : ChosenAreBeginnings) (rest : RestStaysQ
   own_calm old own (Add code name key) sound calm s e = ends_calm _ own s (added_calm old code name key sound calm)
   own_calm old own (SetCredit code credit) sound calm s e = free_calm old own (SetCredit code credit) calm s e
   own_calm old own (Post code reference cents) sound calm s e = free_calm old own (Post code reference cents) calm s e
-  own_calm old own (OpenDay date automatic) sound calm s e = free_calm old own (OpenDay date automatic) calm s e
+  own_calm old own (OpenDay new_day) sound calm s e = free_calm old own (OpenDay new_day) calm s e
   own_calm old own (PlaceOrder sender new_order) sound calm s e =
       free_calm old own (PlaceOrder sender new_order) calm s e
   own_calm old own (Withdraw sender reference) sound calm s e = free_calm old own (Withdraw sender reference) calm s e

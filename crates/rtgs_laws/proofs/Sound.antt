@@ -26,8 +26,8 @@ step_sound laws old new (Add code full key) reply h e = ends _ reply new e (soun
 step_sound laws old new (SetCredit code credit) reply h e = ends _ reply new e (sound_set_credit old code credit h)
 step_sound laws old new (Post code reference cents) reply h e =
     ends _ reply new e (sound_post laws old code reference cents h)
-step_sound laws old new (OpenDay date automatic) reply h e =
-    ends _ reply new e (sound_open_day laws old date automatic h)
+step_sound laws old new (OpenDay new_day) reply h e =
+    ends _ reply new e (sound_open_day laws old new_day h)
 step_sound laws old new (PlaceOrder sender new_order) reply h e =
     ends _ reply new e (sound_order laws old sender new_order h)
 step_sound laws old new (Withdraw sender reference) reply h e =

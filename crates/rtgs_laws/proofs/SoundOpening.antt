@@ -12,6 +12,7 @@ use Rattle.rtgs_money.specs.Date.{is_weekend}
 use Rattle.rtgs_book.specs.declared.limits.TheConstants.{LONGEST_QUEUE, LARGEST_TOTAL}
 use Rattle.rtgs_book.specs.declared.book.Book.{Book}
 use Rattle.rtgs_book.specs.declared.mark.Mark.{Mark}
+use Rattle.rtgs_book.specs.declared.new_day.NewDay.{NewDay}
 use Rattle.rtgs_book.specs.declared.order.Order.{Order}
 use Rattle.rtgs_book.specs.declared.order_state.OrderState.{OrderState}
 use Rattle.rtgs_book.specs.declared.order_state.OrderState.TheVariants.{Queued, Held, Settled, Withdrawn, Rejected}
@@ -224,9 +225,9 @@ module _ (laws : BookLaws) (book : Book) (date : ℕ) (automatic : Bool) (h : Is
     choice_fits = λ e. absurd (true≢false (sym e));
   }
 
-pub sound_open_day : BookLaws → (book : Book) (date : ℕ) (automatic : Bool) → IsSound book
-    → IsSound (open_day book date automatic).book
+pub sound_open_day : BookLaws → (book : Book) (new_day : NewDay) → IsSound book
+    → IsSound (open_day book new_day).book
 unfolding open_day
-sound_open_day laws book date automatic h = sound_first_of book _ _ h (λ (_, (closed, (later, (weekday, _)))).
-    open_day_sound laws book date automatic h (from_not _ closed) (later_le date book.day.date (from_not _ later))
-    weekday)
+sound_open_day laws book new_day h = sound_first_of book _ _ h (λ (_, (closed, (later, (weekday, _)))).
+    open_day_sound laws book new_day.date new_day.automatic h (from_not _ closed)
+    (later_le new_day.date book.day.date (from_not _ later)) weekday)

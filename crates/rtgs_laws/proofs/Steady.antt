@@ -146,8 +146,8 @@ module _ (old new : Book) (reply : OwnReply) where
       refl))
   moves (Post code reference cents) e = by_outcome old new (Post code reference cents) reply _ e
       (issued_post old code reference cents)
-  moves (OpenDay date automatic) e = by_outcome old new (OpenDay date automatic) reply _ e
-      (issued_by old (open_day old date automatic).book
+  moves (OpenDay new_day) e = by_outcome old new (OpenDay new_day) reply _ e
+      (issued_by old (open_day old new_day).book
       (book_first_of (λ b. b.postings ≡ old.postings) old _ _ refl refl))
   moves (PlaceOrder sender new_order) e = by_outcome old new
       (PlaceOrder sender new_order) reply _ e
@@ -295,9 +295,10 @@ step_stands old new (SetCredit code credit) reply h e = stays old new reply _ e
     (book_first_of (KeepsWhatIsFinal old) old _ _ (stands_same old old refl refl) (stands_same old _ refl refl))
 step_stands old new (Post code reference cents) reply h e = stays old new reply _ e
     (book_first_of (KeepsWhatIsFinal old) old _ _ (stands_same old old refl refl) (stands_same old _ refl refl))
-step_stands old new (OpenDay date automatic) reply h e = stays old new reply _ e
+step_stands old new (OpenDay new_day) reply h e = stays old new reply _ e
     (book_first_of (KeepsWhatIsFinal old) old _ _ (stands_same old old refl refl)
-    (stands_altered old _ (is_due date) (entered date) (due_unsettled old date) [] (sym (append-nil old.marks)) refl))
+    (stands_altered old _ (is_due new_day.date) (entered new_day.date) (due_unsettled old new_day.date) []
+    (sym (append-nil old.marks)) refl))
 step_stands old new (PlaceOrder sender new_order) reply h e =
     stays old new reply _ e (book_first_of (KeepsWhatIsFinal old) old _ _ (stands_same old old refl refl)
     (takes_stands old sender new_order h new_order.due))
@@ -401,9 +402,9 @@ step_fits old new (Post code reference cents) reply fits h e =
       postings = all_push (λ (p : Posting). IsPostingAmount p.cents) old.postings _ h.postings fits;
       orders = h.orders;
     }))
-step_fits old new (OpenDay date automatic) reply fits h e = fitting new reply _ e
-    (book_first_of Fits old _ _ h (fits_as old _ refl refl (fits_orders old (is_due date) (entered date) (λ o. refl)
-    h.orders) h))
+step_fits old new (OpenDay new_day) reply fits h e = fitting new reply _ e
+    (book_first_of Fits old _ _ h (fits_as old _ refl refl (fits_orders old (is_due new_day.date)
+    (entered new_day.date) (λ o. refl) h.orders) h))
 step_fits old new (PlaceOrder sender new_order) reply fits h e =
     fitting new reply _ e (book_first_of Fits old _ _ h (fits_takes_due old
     (taken_order old sender new_order) new_order.due fits h))

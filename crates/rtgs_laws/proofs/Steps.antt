@@ -23,7 +23,7 @@ pub gives_one : GreatestIsUnique → (book : Book) (command : Command) (a b : Ou
 gives_one unique book (Add code name key) a b h k = h ∙ sym k
 gives_one unique book (SetCredit code credit) a b h k = h ∙ sym k
 gives_one unique book (Post code reference cents) a b h k = h ∙ sym k
-gives_one unique book (OpenDay date automatic) a b h k = h ∙ sym k
+gives_one unique book (OpenDay new_day) a b h k = h ∙ sym k
 gives_one unique book (Order sender new_order) a b h k = h ∙ sym k
 gives_one unique book (Withdraw sender reference) a b h k = h ∙ sym k
 gives_one unique book Resolve a b h k = by_greatest unique book (resolve book) a b h k
@@ -48,7 +48,7 @@ step_there exists book (Add code name key) holds = let o = add book code name ke
 step_there exists book (SetCredit code credit) holds = let o = set_credit book code credit in (o.reply, o.book, refl)
 step_there exists book (Post code reference cents) holds = let o = post book code reference cents
     in (o.reply, o.book, refl)
-step_there exists book (OpenDay date automatic) holds = let o = open_day book date automatic in (o.reply, o.book, refl)
+step_there exists book (OpenDay new_day) holds = let o = open_day book new_day in (o.reply, o.book, refl)
 step_there exists book (Order sender new_order) holds =
     let o = order book sender new_order in (o.reply, o.book, refl)
 step_there exists book (Withdraw sender reference) holds = let o = withdraw book sender reference

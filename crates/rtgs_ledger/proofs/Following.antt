@@ -411,7 +411,7 @@ kind_is_loud : (command : Command) → may_free command ≡ true → answers_its
 kind_is_loud (command.Add code name key) e = absurd (true≢false (sym e))
 kind_is_loud (command.SetCredit code credit) e = refl
 kind_is_loud (command.Post code reference cents) e = refl
-kind_is_loud (command.OpenDay date automatic) e = refl
+kind_is_loud (command.OpenDay new_day) e = refl
 kind_is_loud (command.Order sender new_order) e = refl
 kind_is_loud (command.Withdraw sender reference) e = refl
 kind_is_loud command.Resolve e = absurd (true≢false (sym e))

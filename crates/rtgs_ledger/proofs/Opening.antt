@@ -9,11 +9,12 @@ use Rattle.rtgs_book.specs.declared.refusal.Refusal.TheVariants.{WrongPhase, Wro
 use Rattle.rtgs_book.specs.declared.change.RowChange.TheVariants.{SetDay}
 use Rattle.rtgs_book.specs.declared.book.Book.{Book}
 use Rattle.rtgs_book.specs.declared.day.Day.{Day}
-use Rattle.rtgs_book.specs.declared.phase.Phase.TheVariants.{Open}
+use Rattle.rtgs_book.specs.declared.new_day.NewDay.{NewDay}
 use Rattle.rtgs_book.specs.Balance.{balance}
 use Rattle.rtgs_book.specs.Books.{is_open, is_closed}
 use Rattle.rtgs_book.specs.Changes.{Leads, balance_set}
-use Rattle.rtgs_book.specs.Commands.{open_day, with_day, has_choice, is_date, is_later, is_due, is_due_by, let_in}
+use Rattle.rtgs_book.specs.Commands.{open_day, opened_day, with_day, has_choice, is_date, is_later, is_due, is_due_by}
+use Rattle.rtgs_book.specs.Commands.{let_in}
 use Rattle.rtgs_book.specs.declared.change.RowChange.{RowChange}
 use Rattle.rtgs_book.specs.declared.change.RowChange.TheVariants.{EnterQueue}
 use Rattle.rtgs_book.specs.declared.order.Order.{Order}
@@ -39,30 +40,34 @@ use Rattle.rtgs_lists.proofs.Filters.{filter_agrees, filter_twice}
 use Rattle.rtgs_lists.proofs.Lists.{all_of}
 use Rattle.rtgs_lists.proofs.Numbers.{int_eq_self}
 
-module _ (book : Book) (date : ℕ) (automatic : Bool) where
-  pub repeats : (is_open book.day.phase && is_date book.day.date date && has_choice automatic book.day) ≡ true
-      → OwnStep book (OpenDay date automatic) (Ok (Repeated Nothing)) book
+module _ (book : Book) (new_day : NewDay) where
+  pub repeats : (is_open book.day.phase && is_date book.day.date new_day.date
+      && has_choice new_day.automatic book.day) ≡ true
+      → OwnStep book (OpenDay new_day) (Ok (Repeated Nothing)) book
   unfolding open_day first_of
   repeats same = rw same refl
 
-  module _ (new : (is_open book.day.phase && is_date book.day.date date && has_choice automatic book.day) ≡ false) where
-    pub wrong_phase : is_closed book.day.phase ≡ false → OwnStep book (OpenDay date automatic) (Err WrongPhase) book
+  module _ (new : (is_open book.day.phase && is_date book.day.date new_day.date
+      && has_choice new_day.automatic book.day) ≡ false) where
+    pub wrong_phase : is_closed book.day.phase ≡ false → OwnStep book (OpenDay new_day) (Err WrongPhase) book
     unfolding open_day first_of
     wrong_phase not_closed = rw (new, not_closed) refl
 
-    pub wrong_date : is_closed book.day.phase ≡ true → is_later date book.day.date ≡ false
-        → OwnStep book (OpenDay date automatic) (Err WrongDate) book
+    pub wrong_date : is_closed book.day.phase ≡ true → is_later new_day.date book.day.date ≡ false
+        → OwnStep book (OpenDay new_day) (Err WrongDate) book
     unfolding open_day first_of
     wrong_date closed early = rw (new, closed, early) refl
 
-    pub weekend : is_closed book.day.phase ≡ true → is_later date book.day.date ≡ true → is_weekend date ≡ true
-        → OwnStep book (OpenDay date automatic) (Err Weekend) book
+    pub weekend : is_closed book.day.phase ≡ true → is_later new_day.date book.day.date ≡ true
+        → is_weekend new_day.date ≡ true
+        → OwnStep book (OpenDay new_day) (Err Weekend) book
     unfolding open_day first_of
     weekend closed later free = rw (new, closed, later, free) refl
 
-    pub opens : is_closed book.day.phase ≡ true → is_later date book.day.date ≡ true → is_weekend date ≡ false
-        → OwnStep book (OpenDay date automatic) (Ok Opened) (with_day (let_in book (is_due date) date)
-        (record { date = Some date; phase = Open; automatic = automatic }))
+    pub opens : is_closed book.day.phase ≡ true → is_later new_day.date book.day.date ≡ true
+        → is_weekend new_day.date ≡ false
+        → OwnStep book (OpenDay new_day) (Ok Opened) (with_day (let_in book (is_due new_day.date) new_day.date)
+        (opened_day new_day))
     unfolding open_day first_of
     opens closed later working = rw (new, closed, later, working) refl
 
@@ -115,45 +120,44 @@ accounts_stay : (held : Held) (date : ℕ) (numbers : List ℕ) (day : Day)
 accounts_stay held date [] day = refl
 accounts_stay held date (n ∷ ns) day = accounts_stay (after_row held (EnterQueue n date)) date ns day
 
-module _ (held : Held) (kept : IsKept held) (date : ℕ) (automatic : Bool) (law : BalanceAfterEntering)
+module _ (held : Held) (kept : IsKept held) (new_day : NewDay) (law : BalanceAfterEntering)
     (numbers : NumbersLeadToOrders) where
-  abbrev day : Day
-  day = record { date = Some date; phase = Open; automatic = automatic }
-
   abbrev opened : Book
-  opened = with_day (let_in held.content (is_due date) date) day
+  opened = with_day (let_in held.content (is_due new_day.date) new_day.date) (opened_day new_day)
 
   abbrev pub entering : List ℕ
-  entering = due_numbers numbers date held.content kept.sound.orders_numbered
+  entering = due_numbers numbers new_day.date held.content kept.sound.orders_numbered
 
   abbrev pub opening_rows : List RowChange
-  opening_rows = enter_rows date entering ++ SetDay day ∷ []
+  opening_rows = enter_rows new_day.date entering ++ SetDay (opened_day new_day) ∷ []
 
   balance_same : (c : List ℕ) → balance held.content c ≡ balance opened c
   unfolding balance
-  balance_same c = sym (law held.content (is_due date) date c
-      (all_of (λ o. is_due date o ≡ true → is_settled o ≡ false)
+  balance_same c = sym (law held.content (is_due new_day.date) new_day.date c
+      (all_of (λ o. is_due new_day.date o ≡ true → is_settled o ≡ false)
       (λ o e. waits_unsettled o.state (held_waits o.state (and_parts _ _ e).0)) held.content.orders))
 
   leads_to_it : Leads held.content opening_rows opened
   leads_to_it = record {
-    book = changed_more held.content (enter_rows date entering) (SetDay day ∷ [])
-        ∙ ap (λ b. with_day b day) (due_enter numbers date held.content kept.sound.orders_numbered);
+    book = changed_more held.content (enter_rows new_day.date entering) (SetDay (opened_day new_day) ∷ [])
+        ∙ ap (λ b. with_day b (opened_day new_day))
+        (due_enter numbers new_day.date held.content kept.sound.orders_numbered);
     balances = all_of (λ c. balance_set c opening_rows ≡ (if int_eq (balance held.content c) (balance opened c) then
         None
         else Some (balance opened c)))
-        (λ c. sets_none c date entering day ∙ rw (← balance_same c, int_eq_self (balance held.content c)) refl)
+        (λ c. sets_none c new_day.date entering (opened_day new_day)
+        ∙ rw (← balance_same c, int_eq_self (balance held.content c)) refl)
         (accounts opened);
   }
 
-  pub prepared_open : (is_open held.content.day.phase && is_date held.content.day.date date
-      && has_choice automatic held.content.day) ≡ false → is_closed held.content.day.phase ≡ true
-      → is_later date held.content.day.date ≡ true → is_weekend date ≡ false
-      → IsPrepared held (OpenDay date automatic) Opened opening_rows
+  pub prepared_open : (is_open held.content.day.phase && is_date held.content.day.date new_day.date
+      && has_choice new_day.automatic held.content.day) ≡ false → is_closed held.content.day.phase ≡ true
+      → is_later new_day.date held.content.day.date ≡ true → is_weekend new_day.date ≡ false
+      → IsPrepared held (OpenDay new_day) Opened opening_rows
   prepared_open new closed later working =
-      prepared_done held (OpenDay date automatic) Opened opening_rows opened tt
-      (opens held.content date automatic new closed later working) leads_to_it
-      (adds_nobody opened opening_rows date entering day)
-      (subst (AreBalanced opened) (sym (accounts_stay held date entering day))
+      prepared_done held (OpenDay new_day) Opened opening_rows opened tt
+      (opens held.content new_day new closed later working) leads_to_it
+      (adds_nobody opened opening_rows new_day.date entering (opened_day new_day))
+      (subst (AreBalanced opened) (sym (accounts_stay held new_day.date entering (opened_day new_day)))
       (all_same (balance held.content) (balance opened) balance_same held.accounts kept.balanced))
       (λ k e. absurd (cc)) (λ e. absurd (cc))

@@ -144,7 +144,7 @@ impl Ledger {
                 reference,
                 cents,
             } => self.prepare_post(code, reference, cents, found.posting),
-            Command::OpenDay { date, automatic } => self.prepare_open_day(date, automatic),
+            Command::OpenDay(new_day) => self.prepare_open_day(&new_day),
             Command::Order { sender, order } => self.prepare_order(sender, &order, found.order),
             Command::Withdraw { sender, reference } => {
                 self.prepare_withdraw(sender, reference, found.order)

@@ -46,7 +46,7 @@ use std::alloc::{AllocError, Global};
 /// replies, and lead to the book that the desk then holds. The store fails once at most, and then nothing more is done.
 /// Whatever a crash leaves then is that book, or that book after the one command that met the fault. Without memory for
 /// the replies nothing is done. This holds over any keeper with the trait's laws.
-// To judge it, read these 20 files, 160 definitions: rtgs_desk Holding, Replies, Seen; rtgs_book Run, Session, Calm,
+// To judge it, read these 20 files, 161 definitions: rtgs_desk Holding, Replies, Seen; rtgs_book Run, Session, Calm,
 // cores.Cores, Soundness, Ranges; the ten of a command; rtgs_money Amounts.
 pub fn answers_are_the_definitions_run<K: Keeper>(
     desk: &mut Desk<K>,
@@ -80,7 +80,7 @@ pub fn tables_are_exactly_the_book<S: Alter + Drop>(desk: &Desk<SqlKeeper<S>>)
 
 /// **Promise 6, as a call: a command and what follows it are one.** Wherever the store fails, a crash leaves the book
 /// before the command, or the one after it and after all that it let settle, and never one between them.
-// To judge it, read these 17 files, 151 definitions: rtgs_desk Holding, Seen; the ten of a command; rtgs_book Calm,
+// To judge it, read these 17 files, 152 definitions: rtgs_desk Holding, Seen; the ten of a command; rtgs_book Calm,
 // cores.Cores, Soundness, Ranges; rtgs_money Amounts.
 pub fn a_command_and_what_follows_are_one<K: Keeper>(
     desk: &mut Desk<K>,
@@ -107,7 +107,7 @@ pub fn stored_money_is_what_was_posted<S: Alter>(conn: &Connection<S>)
 
 /// **Promise 11, as a call.** A batch is sent, the desk stops, is opened again, and the whole batch is sent once more.
 /// If this sending comes to its end, the desk holds the book that one sending would have made.
-// To judge it, read these 19 files, 160 definitions: rtgs_book Run, Calm, cores.Cores, Soundness, Ranges; the ten of a
+// To judge it, read these 19 files, 161 definitions: rtgs_book Run, Calm, cores.Cores, Soundness, Ranges; the ten of a
 // command; rtgs_desk Holding, batches.Batches, Seen; rtgs_money Amounts.
 pub fn send_a_batch_twice<S: Alter + Reopen + Drop>(
     alloc: Global,

@@ -16,7 +16,7 @@ ghost use Rattle.rtgs_records.specs.Held.{FindsRoom, after_row};
 use crate::accounts::Accounts;
 use crate::queues::Orders;
 use rtgs_book::{
-    Account, Day, LARGEST_NUMBER, LARGEST_TOTAL, Mark, NewOrder, Order, Phase, RowChange,
+    Account, Day, LARGEST_NUMBER, LARGEST_TOTAL, Mark, NewDay, NewOrder, Order, Phase, RowChange,
 };
 use rtgs_money::{Amount, BusinessDate, Cents, Code, Credit, PostingAmount};
 
@@ -81,13 +81,13 @@ impl Records {
         matches!(self.day.phase, Phase::Closed)
     }
 
-    /// Whether the desk takes orders on this date, which was opened with this choice.
-    pub fn is_open_on(&self, date: BusinessDate, automatic: bool) -> bool
-        ensures { result ≡ (is_open self.now.day.phase && is_date self.now.day.date date
-            && has_choice automatic self.now.day) }
+    /// Whether the desk takes orders on the date of this day, which was opened with its choice.
+    pub fn is_open_on(&self, new_day: &NewDay) -> bool
+        ensures { result ≡ (is_open self.now.day.phase && is_date self.now.day.date new_day.now.date
+            && has_choice new_day.now.automatic self.now.day) }
     {
         match self.open_date() {
-            Some(day) => day == date && self.has_choice(automatic),
+            Some(date) => date == new_day.date && self.has_choice(new_day.automatic),
             None => false,
         }
     }

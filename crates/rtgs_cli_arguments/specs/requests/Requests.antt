@@ -19,6 +19,7 @@ use Rattle.rtgs_cli_arguments.specs.declared.requests.request.Request.{Request}
 use Rattle.rtgs_cli_arguments.specs.declared.requests.request.Request.TheVariants.{Make, Migrate, Submit, Import, Read}
 use Rattle.rtgs_cli_arguments.specs.declared.requests.request.Request.TheVariants.{Serve}
 use Rattle.rtgs_cli_arguments.specs.requests.Words.{ReadsAdd, ReadsCode, ReadsCredit, ReadsPost, ReadsDate, ReadsDay}
+use Rattle.rtgs_cli_arguments.specs.requests.Words.{opens_day}
 use Rattle.rtgs_cli_arguments.specs.requests.Words.{ReadsKey, ReadsOrderName, ReadsStatement}
 
 -- What is read like this is made into the result. Where a word is not of its form, that is the result.
@@ -33,7 +34,7 @@ ReadsCommand (Credit code cents) result = ReadsCredit code.now cents.now result
 ReadsCommand (Post code reference cents debit) result = ReadsPost code.now reference.now cents.now debit result
 ReadsCommand (Withdraw code reference) result = IsMadeOf (ReadsOrderName code.now reference.now)
     (λ order. command.Withdraw order.0 order.1) result
-ReadsCommand (Open date automatic) result = ReadsDay (λ day. command.OpenDay day automatic) date.now result
+ReadsCommand (Open date automatic) result = ReadsDay (opens_day automatic) date.now result
 ReadsCommand Resolve result = result ≡ Ok command.Resolve
 ReadsCommand (CutOff date) result = ReadsDay command.CutOff date.now result
 ReadsCommand (Close date) result = ReadsDay command.CloseDay date.now result

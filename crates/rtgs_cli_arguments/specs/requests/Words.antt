@@ -83,6 +83,10 @@ pub record ReadsStatement (code date : List ℕ) (result : Result (List ℕ × �
   pub bad_code : ¬ IsCode code → result ≡ Err BadCode
   pub bad_date : IsCode code → IsNoDate date → result ≡ Err BadDate
 
+-- the command that opens this day, with this choice
+abbrev pub opens_day : Bool → ℕ → Command
+opens_day automatic day = command.OpenDay (record { date = day; automatic = automatic })
+
 -- the word of a day, weekends too, for a command of that day
 pub record ReadsDay (command_of : ℕ → Command) (date : List ℕ) (result : Result Command Lexical) : Type 0 where
   pub found : (day : ℕ) → IsBusinessDate day → date ≡ date_text day → result ≡ Ok (command_of day)

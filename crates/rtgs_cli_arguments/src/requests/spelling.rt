@@ -1,11 +1,11 @@
 //! The values that words spell, judged from left to right.
 ghost use Rattle.std.specs.Prelude.{◌≡◌};
-ghost use Rattle.rtgs_book.specs.declared.command.Command.TheVariants.{OpenDay, CutOff, CloseDay};
+ghost use Rattle.rtgs_book.specs.declared.command.Command.TheVariants.{CutOff, CloseDay};
 ghost use Rattle.rtgs_cli_arguments.specs.requests.Words.{ReadsAdd, ReadsCode, ReadsCredit, ReadsPost, ReadsCents};
-ghost use Rattle.rtgs_cli_arguments.specs.requests.Words.{ReadsDate};
-ghost use Rattle.rtgs_cli_arguments.specs.requests.Words.{ReadsDay, ReadsKey, ReadsOrderName, ReadsStatement};
+ghost use Rattle.rtgs_cli_arguments.specs.requests.Words.{ReadsDate, ReadsDay, opens_day};
+ghost use Rattle.rtgs_cli_arguments.specs.requests.Words.{ReadsKey, ReadsOrderName, ReadsStatement};
 
-use rtgs_book::Command;
+use rtgs_book::{Command, NewDay};
 use rtgs_money::{
     BusinessDate, Code, Credit, Key, KeyDigest, Lexical, Name, PostingAmount, Reference,
 };
@@ -59,10 +59,10 @@ fn read_cents(cents: &str, debit: bool) -> Result<PostingAmount, Lexical>
 
 /// The opening of a day that the word spells, with this choice.
 pub fn read_open(date: &str, automatic: bool) -> Result<Command, Lexical>
-    ensures { ReadsDay (λ day. OpenDay day automatic) date.now result }
+    ensures { ReadsDay (opens_day automatic) date.now result }
 {
     let date = read_date(date)?;
-    Ok(Command::OpenDay { date, automatic })
+    Ok(Command::OpenDay(NewDay { date, automatic }))
 }
 
 /// The cut-off of a day that the word spells.

@@ -2,7 +2,7 @@
 use super::requests::{BETA, GAMA, WrittenRequest, spelled};
 use super::words::in_words;
 use super::{ALFA, OPERATOR, digest};
-use rtgs_book::Command;
+use rtgs_book::{Command, NewDay};
 use rtgs_desk::Desk;
 use rtgs_http_server::{Served, Unread, read_request, serve_one};
 use rtgs_keeper::Keeper;
@@ -43,7 +43,7 @@ pub fn add_banks<K: Keeper>(desk: &mut Desk<K>) -> Result<(), Fail> {
 pub fn begin_day<K: Keeper>(desk: &mut Desk<K>, automatic: bool) -> Result<(), Fail> {
     add_banks(desk)?;
     let date = BusinessDate::read(b"2024-03-04")?;
-    desk.submit(Command::OpenDay { date, automatic })?;
+    desk.submit(Command::OpenDay(NewDay { date, automatic }))?;
     Ok(())
 }
 

@@ -1,5 +1,5 @@
 //! What a request asks for, in words.
-use rtgs_book::{Command, NewOrder, Reading};
+use rtgs_book::{Command, NewDay, NewOrder, Reading};
 use rtgs_http_requests::Asked;
 use std::alloc::{AllocError, Global};
 
@@ -22,7 +22,7 @@ fn command_words(alloc: Global, command: &Command) -> Result<String, AllocError>
             reference,
             cents,
         } => format!(in alloc; "post {code} {reference} {cents}"),
-        Command::OpenDay { date, automatic } => {
+        Command::OpenDay(NewDay { date, automatic }) => {
             let choice = if *automatic { " automatic" } else { "" };
             format!(in alloc; "open {date}{choice}")
         }

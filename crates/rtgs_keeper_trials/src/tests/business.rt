@@ -1,7 +1,7 @@
 //! Commands, as chance would have them.
 ghost use Rattle.std.specs.Prelude.{◌<◌, ◌≤◌};
 
-use rtgs_book::{Answer, Command, Refusal};
+use rtgs_book::{Answer, Command, NewDay, Refusal};
 use rtgs_money::BusinessDate;
 use rtgs_tests_desks::{Reply, command};
 use std::alloc::Global;
@@ -85,10 +85,10 @@ impl Business {
             5 | 6 => {
                 self.asked = self.today.wrapping_add(self.below(3));
                 self.chosen = self.below(2) == 1;
-                Ok(Command::OpenDay {
+                Ok(Command::OpenDay(NewDay {
                     date: day_at(self.asked)?,
                     automatic: self.chosen,
-                })
+                }))
             }
             9 | 10 => Ok(Command::Resolve),
             11 if self.below(8) == 0 => Ok(Command::CutOff(self.day()?)),

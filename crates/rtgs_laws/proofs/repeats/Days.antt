@@ -1,16 +1,17 @@
 -- The day's commands where they come again at once.
-use Rattle.std.proofs.Common.{◌≡◌, ℕ, Bool, true, false, ◌&&◌, List, [], ◌∷◌, filter, length, Ok, Some}
+use Rattle.std.proofs.Common.{◌≡◌, ℕ, Bool, true, false, ◌&&◌, List, [], ◌∷◌, filter, length, Option, Ok, Some}
 use Rattle.std.proofs.Common.{refl, sym, ap, ◌∙◌, subst, true≢false}
 use Rattle.std.proofs.lemmas.Bool.{not-false, and_from}
 use Rattle.rtgs_book.specs.declared.book.Book.{Book}
 use Rattle.rtgs_book.specs.declared.command.Command.{Command}
 use Rattle.rtgs_book.specs.declared.day.Day.{Day}
+use Rattle.rtgs_book.specs.declared.new_day.NewDay.{NewDay}
 use Rattle.rtgs_book.specs.declared.phase.Phase.TheVariants.{Open}
 use Rattle.rtgs_book.specs.declared.command.Command.TheVariants.{OpenDay, Resolve, CutOff, CloseDay}
 use Rattle.rtgs_book.specs.declared.answer.Answer.TheVariants.{Closed, Nothing}
 use Rattle.rtgs_book.specs.Books.{is_closed, is_empty, is_open, is_queued}
 use Rattle.rtgs_book.specs.Choice.{Choice, chosen, is_chosen, IsGreatest}
-use Rattle.rtgs_book.specs.Commands.{has_choice, is_date, resolve}
+use Rattle.rtgs_book.specs.Commands.{has_choice, is_date, opened_day, resolve}
 use Rattle.rtgs_book.specs.Commands.{repeated, open_day, cut_off, close_day}
 use Rattle.rtgs_book.specs.Outcome.{OwnReply, Outcome, Reply, alone, first_of, is_done}
 use Rattle.rtgs_book.specs.Run.{is_accepted}
@@ -54,34 +55,31 @@ closed_count old new date count s =
 
 -- ---- the day that was opened, and what a resolution leaves of it
 
-has_own_choice : (date : ℕ) (automatic : Bool) → has_choice automatic (record {
-  date = Some date;
+has_own_choice : (date : Option ℕ) (automatic : Bool) → has_choice automatic (record {
+  date = date;
   phase = Open;
   automatic = automatic;
 }) ≡ true
 has_own_choice date true = refl
 has_own_choice date false = refl
 
-own_opened : (old new : Book) (reply : OwnReply) (date : ℕ) (automatic : Bool) → is_done reply ≡ true
-    → OwnStep old (OpenDay date automatic) reply new
-    → new.day ≡ record { date = Some date; phase = Open; automatic = automatic }
+own_opened : (old new : Book) (reply : OwnReply) (new_day : NewDay) → is_done reply ≡ true
+    → OwnStep old (OpenDay new_day) reply new → new.day ≡ opened_day new_day
 unfolding open_day
-own_opened old new reply date automatic accepted s =
+own_opened old new reply new_day accepted s =
     let p = passed_step old new reply _ _ (refl, (refl, (refl, (refl, tt)))) accepted s in
     ap (λ (o : Outcome). o.book.day) p.1
 
-opened_test : (new : Book) (date : ℕ) (automatic : Bool) (day : Day)
-    → day ≡ record { date = Some date; phase = Open; automatic = automatic }
-    → (is_open day.phase && is_date day.date date && has_choice automatic day) ≡ true
-opened_test new date automatic day e =
-    subst (λ (d : Day). (is_open d.phase && is_date d.date date && has_choice automatic d) ≡ true) (sym e)
-    (and_from _ _ (eq_self date) (has_own_choice date automatic))
+opened_test : (new : Book) (new_day : NewDay) (day : Day) → day ≡ opened_day new_day
+    → (is_open day.phase && is_date day.date new_day.date && has_choice new_day.automatic day) ≡ true
+opened_test new new_day day e =
+    subst (λ (d : Day). (is_open d.phase && is_date d.date new_day.date && has_choice new_day.automatic d) ≡ true)
+    (sym e) (and_from _ _ (eq_self new_day.date) (has_own_choice (Some new_day.date) new_day.automatic))
 
-still_opened : (new : Book) (date : ℕ) (automatic : Bool)
-    → new.day ≡ record { date = Some date; phase = Open; automatic = automatic }
-    → OwnStep new (OpenDay date automatic) repeated new
+still_opened : (new : Book) (new_day : NewDay) → new.day ≡ opened_day new_day
+    → OwnStep new (OpenDay new_day) repeated new
 unfolding open_day
-still_opened new date automatic e = sym (first_holds _ _ _ _ _ (opened_test new date automatic new.day e))
+still_opened new new_day e = sym (first_holds _ _ _ _ _ (opened_test new new_day new.day e))
 
 -- a resolution leaves the day and the participants
 abbrev Leaves : Book → Book → Type 0
@@ -101,13 +99,12 @@ pub left_so : (old new : Book) (command : Command) (reply : Reply) → (s : Step
     → Leaves s.0.book new
 left_so old new command reply s = ends_leave (is_followed command s.0) new s.0 reply s.2
 
-pub opened_again : (old new : Book) (reply : Reply) (date : ℕ) (automatic : Bool) → is_accepted reply ≡ true
-    → Step old (OpenDay date automatic) reply new → Step new (OpenDay date automatic) (alone repeated) new
-opened_again old new reply date automatic accepted s =
-    let left = left_so old new (OpenDay date automatic) reply s in
-    quietly new (OpenDay date automatic) repeated refl (still_opened new date automatic (left.0
-    ∙ own_opened old s.0.book s.0.reply date automatic
-    (own_accepted old new (OpenDay date automatic) reply s accepted) s.1))
+pub opened_again : (old new : Book) (reply : Reply) (new_day : NewDay) → is_accepted reply ≡ true
+    → Step old (OpenDay new_day) reply new → Step new (OpenDay new_day) (alone repeated) new
+opened_again old new reply new_day accepted s =
+    let left = left_so old new (OpenDay new_day) reply s in
+    quietly new (OpenDay new_day) repeated refl (still_opened new new_day (left.0
+    ∙ own_opened old s.0.book s.0.reply new_day (own_accepted old new (OpenDay new_day) reply s accepted) s.1))
 
 -- ---- the same command of the day again
 

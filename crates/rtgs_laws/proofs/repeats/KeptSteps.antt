@@ -123,9 +123,9 @@ own_step_kept old new (SetCredit code credit) reply h e = kept_as old new reply 
 own_step_kept old new (Post code reference cents) reply h e = kept_as old new reply _ e
     (after_tests (AreKept old) old _ _ (kept_itself old) (λ _. kept_by old _ (participants_same old.participants)
     (λ reference p e. find_left (is_posting_named reference) old.postings _ p e) (orders_same old.orders)))
-own_step_kept old new (OpenDay date automatic) reply h e = kept_as old new reply _ e
+own_step_kept old new (OpenDay new_day) reply h e = kept_as old new reply _ e
     (after_tests (AreKept old) old _ _ (kept_itself old) (λ _. kept_by old _ (participants_same old.participants)
-    (λ reference p e. e) (orders_entered date old.orders)))
+    (λ reference p e. e) (orders_entered new_day.date old.orders)))
 own_step_kept old new (PlaceOrder sender new_order) reply h e =
     kept_as old new reply _ e (after_tests (AreKept old) old _ _ (kept_itself old)
     (λ _. kept_taken old sender new_order h.orders_numbered new_order.due))

@@ -24,7 +24,7 @@ IsKnown book command reply =
 -- the command at once again changes nothing
 abbrev pub StaysAtOnce : Book → Command → Type 0
 StaysAtOnce book (SetCredit code credit) = Step book (SetCredit code credit) (alone (Ok CreditSet)) book
-StaysAtOnce book (OpenDay date automatic) = Step book (OpenDay date automatic) (alone repeated) book
+StaysAtOnce book (OpenDay new_day) = Step book (OpenDay new_day) (alone repeated) book
 StaysAtOnce book Resolve = Step book Resolve (alone (Ok Nothing)) book
 StaysAtOnce book (CutOff date) = Step book (CutOff date) (alone repeated) book
 StaysAtOnce book (CloseDay date) = Step book (CloseDay date) (alone repeated) book

@@ -3,6 +3,7 @@ ghost use Rattle.std.specs.Prelude.{◌≡◌, ℕ, Bool, true, Ok, Err, List, N
 ghost use Rattle.std.specs.List.{AllByRecursion};
 ghost use Rattle.rtgs_book.specs.declared.book.Book.{Book};
 ghost use Rattle.rtgs_book.specs.declared.command.Command.{Command};
+ghost use Rattle.rtgs_book.specs.declared.new_day.NewDay.{NewDay};
 ghost use Rattle.rtgs_book.specs.declared.command.Command.TheVariants.{SetCredit, OpenDay, Resolve, CutOff, CloseDay};
 ghost use Rattle.rtgs_book.specs.declared.answer.Answer.TheVariants.{CreditSet, Nothing, Closed};
 ghost use Rattle.rtgs_book.specs.declared.refusal.Refusal.TheVariants.{Failed};
@@ -67,8 +68,8 @@ pub fn acted_is_repeated()
 
 /// To open, cut off or close the day again at once is answered as a repeat, and changes nothing.
 pub fn day_is_repeated()
-    ensures opened { (old new : Book) (date : ℕ) (automatic : Bool) (reply : Reply) → is_accepted reply ≡ true
-        → Step old (OpenDay date automatic) reply new → Step new (OpenDay date automatic) (alone repeated) new }
+    ensures opened { (old new : Book) (new_day : NewDay) (reply : Reply) → is_accepted reply ≡ true
+        → Step old (OpenDay new_day) reply new → Step new (OpenDay new_day) (alone repeated) new }
     ensures cut_off { (old new : Book) (date : ℕ) (reply : Reply) → is_accepted reply ≡ true
         → Step old (CutOff date) reply new → Step new (CutOff date) (alone repeated) new }
     ensures closed { (old new : Book) (date : ℕ) (reply : Reply) → IsSound old → is_accepted reply ≡ true

@@ -208,7 +208,7 @@ fn may_free(command: &Command) -> bool
     match command {
         Command::SetCredit { .. }
         | Command::Post { .. }
-        | Command::OpenDay { .. }
+        | Command::OpenDay(_)
         | Command::Order { .. }
         | Command::Withdraw { .. } => true,
         Command::Add { .. } | Command::Resolve | Command::CutOff(_) | Command::CloseDay(_) => false,

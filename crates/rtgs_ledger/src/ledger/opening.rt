@@ -11,7 +11,7 @@ ghost use Rattle.rtgs_ledger.specs.Kinds.{CanAnswerByItself, is_of_the_store};
 
 use super::Ledger;
 use rtgs_book::{
-    Answer, Change, Command, Day, Known, Order, Phase, Refusal, RowChange, Rows, laws,
+    Answer, Change, Command, Day, Known, NewDay, Order, Phase, Refusal, RowChange, Rows, laws,
 };
 use rtgs_money::BusinessDate;
 use rtgs_records::queues::laws::numbers_lead_to_orders;
@@ -20,26 +20,23 @@ use std::alloc::{AllocError, Global};
 impl Ledger {
     /// The day is opened, where the desk is closed and the date is later than the last one. The held orders that are
     /// due enter their queues.
-    pub(super) fn prepare_open_day(
-        &mut self,
-        date: BusinessDate,
-        automatic: bool,
-    ) -> Result<(Answer, Change), Refusal>
+    pub(super) fn prepare_open_day(&mut self, new_day: &NewDay) -> Result<(Answer, Change), Refusal>
         ensures core { self.new.core ≡ self.old.core }
         ensures room { IfOk result (λ (answer, change). HasRoom self.new change) }
         ensures frees { IfOk result (λ (answer, change). FreesOrders change) }
-        ensures answered { IfOk result (λ (answer, change). CanAnswerByItself (Command.OpenDay date automatic) answer
+        ensures answered { IfOk result (λ (answer, change). CanAnswerByItself (Command.OpenDay new_day.now) answer
             change) }
         ensures of_the_command { IfErr result (λ refusal. is_of_the_store refusal ≡ false) }
         ensures prepared { (book : Book) → IsCoreOf book self.old.core
             → IfOk result (λ (answer, change). IsPreparedByItself book self.old.core
-            (Command.OpenDay date automatic) answer change) }
+            (Command.OpenDay new_day.now) answer change) }
         ensures refused { (book : Book) → IsCoreOf book self.old.core
-            → IfErr result (IsRefusedByItself book (Command.OpenDay date automatic)) }
+            → IfErr result (IsRefusedByItself book (Command.OpenDay new_day.now)) }
     {
-        if self.records.is_open_on(date, automatic) {
+        if self.records.is_open_on(new_day) {
             return Ok(self.repeated(Known::Nothing));
         }
+        let date = new_day.date;
         if !self.records.is_closed() {
             return Err(Refusal::WrongPhase);
         }
@@ -52,7 +49,7 @@ impl Ledger {
         let day = Day {
             date: Some(date),
             phase: Phase::Open,
-            automatic,
+            automatic: new_day.automatic,
         };
         numbers_lead_to_orders();
         laws::balance_after_entering();

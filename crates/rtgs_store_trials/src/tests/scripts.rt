@@ -6,7 +6,7 @@ pub mod records;
 pub mod rows;
 
 use super::setting::{Reply, code, reference};
-use rtgs_book::{Command, NewOrder, Resolution, WholeAnswer};
+use rtgs_book::{Command, NewDay, NewOrder, Resolution, WholeAnswer};
 use rtgs_money::{Amount, BusinessDate, Credit, Key, Name, PostingAmount};
 use std::alloc::Global;
 use std::test::Fail;
@@ -94,10 +94,10 @@ pub fn day_of(text: &str) -> Result<BusinessDate, Fail> {
 
 /// Opens a day, which is automatic or not.
 fn opened(day: &str, automatic: bool) -> Result<Command, Fail> {
-    Ok(Command::OpenDay {
+    Ok(Command::OpenDay(NewDay {
         date: day_of(day)?,
         automatic,
-    })
+    }))
 }
 
 /// Adds a participant. All have one name.

@@ -1,5 +1,5 @@
 //! Banks, their commands, and desks over keepers.
-use rtgs_book::{Command, NewOrder};
+use rtgs_book::{Command, NewDay, NewOrder};
 use rtgs_desk::Desk;
 use rtgs_keeper::Keeper;
 use rtgs_money::{Amount, BusinessDate, Code, Credit, Key, Name, PostingAmount, Reference};
@@ -76,10 +76,10 @@ pub fn opens_automatic() -> Result<Command, Fail> {
 
 /// Opens a day, which is automatic or not.
 pub fn opens_on(day: &str, automatic: bool) -> Result<Command, Fail> {
-    Ok(Command::OpenDay {
+    Ok(Command::OpenDay(NewDay {
         date: date(day)?,
         automatic,
-    })
+    }))
 }
 
 /// An order of the sender to pay the receiver.

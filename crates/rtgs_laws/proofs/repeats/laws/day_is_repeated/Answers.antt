@@ -8,7 +8,7 @@ use Rattle.rtgs_laws.proofs.repeats.laws.day_is_repeated.Goals as goal
 
 pub returns : goal.returns
 returns c = record {
-  opened = λ old new date automatic reply accepted s. opened_again old new reply date automatic accepted s;
+  opened = λ old new new_day reply accepted s. opened_again old new reply new_day accepted s;
   cut_off = λ old new date reply accepted s. quietly new (CutOff date) repeated refl
       (cut_off_again old new (own_of reply) date accepted (own_step old new (CutOff date) reply refl s));
   closed = λ old new date reply sound accepted s. quietly new (CloseDay date) repeated refl

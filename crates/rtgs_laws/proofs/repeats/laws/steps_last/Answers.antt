@@ -25,7 +25,7 @@ returns c old new command reply sound step = record {
   where
     at_once : (command : Command) → is_accepted reply ≡ true → Step old command reply new → StaysAtOnce new command
     at_once (SetCredit code credit) accepted step = c.credit_stays.ensures old new code credit reply sound accepted step
-    at_once (OpenDay date automatic) accepted step = c.day_is_repeated.ensures.opened old new date automatic reply
+    at_once (OpenDay new_day) accepted step = c.day_is_repeated.ensures.opened old new new_day reply
         accepted step
     at_once Resolve accepted step = c.resolved_leaves_nothing.ensures old new reply sound accepted step
     at_once (CutOff date) accepted step = c.day_is_repeated.ensures.cut_off old new date reply accepted step

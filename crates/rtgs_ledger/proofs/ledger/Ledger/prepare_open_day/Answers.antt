@@ -20,7 +20,7 @@ pub returns-then-is_open_on-clause-prepared : goal.returns-then-is_open_on-claus
 returns-then-is_open_on-clause-prepared c book is =
     let r = c.self.inside.records in
     let of = is_of_book book r c.args.self.now c.self.view_is is in
-    let step = repeats (book_of (whole book r)) c.args.date c.args.automatic
+    let step = repeats (book_of (whole book r)) c.args.new_day.now
     (sym c.is_open_on.ensures ∙ c.if-is_open_on.true) in
     rw (c.repeated.ensures.answer, c.repeated.ensures.change) (to_prepared book r c.args.self.now.core of _ _ _
     (prepared_repeat (held_of (whole book r)) _ Nothing of.kept step))
@@ -29,8 +29,8 @@ pub returns-then-not-is_closed-clause-refused : goal.returns-then-not-is_closed-
 returns-then-not-is_closed-clause-refused c book is =
     let r = c.self.inside.records in
     let of = is_of_book book r c.args.self.now c.self.view_is is in
-    to_refused book r c.args.self.now.core of (command.OpenDay c.args.date c.args.automatic) _ (inr (
-      wrong_phase (book_of (whole book r)) c.args.date c.args.automatic
+    to_refused book r c.args.self.now.core of (command.OpenDay c.args.new_day.now) _ (inr (
+      wrong_phase (book_of (whole book r)) c.args.new_day.now
           (sym c.is_open_on.ensures ∙ c.if-is_open_on.false) (sym c.is_closed.ensures ∙ c.if-not-is_closed.true),
       refl,
     ))
@@ -39,8 +39,8 @@ pub returns-then-not-is_before-clause-refused : goal.returns-then-not-is_before-
 returns-then-not-is_before-clause-refused c book is =
     let r = c.self.inside.records in
     let of = is_of_book book r c.args.self.now c.self.view_is is in
-    to_refused book r c.args.self.now.core of (command.OpenDay c.args.date c.args.automatic) _ (inr (
-      wrong_date (book_of (whole book r)) c.args.date c.args.automatic
+    to_refused book r c.args.self.now.core of (command.OpenDay c.args.new_day.now) _ (inr (
+      wrong_date (book_of (whole book r)) c.args.new_day.now
           (sym c.is_open_on.ensures ∙ c.if-is_open_on.false) (sym c.is_closed.ensures ∙ c.if-not-is_closed.false)
           (sym c.is_before.ensures ∙ c.if-not-is_before.true),
       refl,
@@ -50,8 +50,8 @@ pub returns-then-is_weekend-clause-refused : goal.returns-then-is_weekend-clause
 returns-then-is_weekend-clause-refused c book is =
     let r = c.self.inside.records in
     let of = is_of_book book r c.args.self.now c.self.view_is is in
-    to_refused book r c.args.self.now.core of (command.OpenDay c.args.date c.args.automatic) _ (inr (
-      weekend (book_of (whole book r)) c.args.date c.args.automatic
+    to_refused book r c.args.self.now.core of (command.OpenDay c.args.new_day.now) _ (inr (
+      weekend (book_of (whole book r)) c.args.new_day.now
           (sym c.is_open_on.ensures ∙ c.if-is_open_on.false) (sym c.is_closed.ensures ∙ c.if-not-is_closed.false)
           (sym c.is_before.ensures ∙ c.if-not-is_before.false) (sym c.is_weekend.ensures ∙ c.if-is_weekend.true),
       refl,
@@ -59,12 +59,12 @@ returns-then-is_weekend-clause-refused c book is =
 
 -- where the tests are passed, the day would be opened
 lacking : (c : After-balance_after_entering) (book : Book) → IsCoreOf book c.args.self.now.core
-    → IsRefusedByItself book (command.OpenDay c.args.date c.args.automatic) OutOfMemory
+    → IsRefusedByItself book (command.OpenDay c.args.new_day.now) OutOfMemory
 lacking c book is =
     let r = c.self.inside.records in
     let of = is_of_book book r c.args.self.now c.self.view_is is in
     to_lacking book r c.args.self.now.core of _ _ _
-    (prepared_open (held_of (whole book r)) of.kept c.args.date c.args.automatic c.balance_after_entering.ensures
+    (prepared_open (held_of (whole book r)) of.kept c.args.new_day.now c.balance_after_entering.ensures
     c.numbers_lead_to_orders.ensures
     (sym c.is_open_on.ensures ∙ c.if-is_open_on.false) (sym c.is_closed.ensures ∙ c.if-not-is_closed.false)
     (sym c.is_before.ensures ∙ c.if-not-is_before.false) (sym c.is_weekend.ensures ∙ c.if-is_weekend.false)) refl
@@ -83,25 +83,26 @@ returns-in_err-rows-clause-refused c book is =
 
 pub returns-clause-room : goal.returns-clause-room
 returns-clause-room c = rw (c.from_vec.ensures, c.in_ok-rows.ensures)
-    (room_to_open c.args.date c.as_slice-2.result.now _ _)
+    (room_to_open c.args.new_day.now.date c.as_slice-2.result.now _ _)
 
 pub returns-clause-frees : goal.returns-clause-frees
 returns-clause-frees c = rw (c.from_vec.ensures, c.in_ok-rows.ensures)
-    (opening_frees c.args.date c.as_slice-2.result.now _)
+    (opening_frees c.args.new_day.now.date c.as_slice-2.result.now _)
 
 pub returns-clause-prepared : goal.returns-clause-prepared
 returns-clause-prepared c book is =
     let r = c.self.inside.records in
     let of = is_of_book book r c.args.self.now c.self.view_is is in
     let here = book_of (whole book r) in
-    let due : c.in_ok-numbers.numbers.items ≡ map (λ (o : Order). o.number) (filter (is_due c.args.date) here.orders) =
+    let due_by = is_due c.args.new_day.now.date in
+    let due : c.in_ok-numbers.numbers.items ≡ map (λ (o : Order). o.number) (filter due_by here.orders) =
     c.in_ok-numbers.ensures
-    ∙ ap (λ os. map (λ (o : Order). o.number) (filter (is_due c.args.date) os)) (c.as_slice.ensures ∙ of.waiting)
-    ∙ ap (map (λ (o : Order). o.number)) (due_among c.args.date book.orders)
-    ∙ ap (λ (b : Book). map (λ (o : Order). o.number) (filter (is_due c.args.date) b.orders)) (sym of.same) in
+    ∙ ap (λ os. map (λ (o : Order). o.number) (filter due_by os)) (c.as_slice.ensures ∙ of.waiting)
+    ∙ ap (map (λ (o : Order). o.number)) (due_among c.args.new_day.now.date book.orders)
+    ∙ ap (λ (b : Book). map (λ (o : Order). o.number) (filter due_by b.orders)) (sym of.same) in
     rw (c.from_vec.ensures, c.in_ok-rows.ensures, c.as_slice-2.ensures.value, due)
     (to_prepared book r c.args.self.now.core of _ _ _
-    (prepared_open (held_of (whole book r)) of.kept c.args.date c.args.automatic c.balance_after_entering.ensures
+    (prepared_open (held_of (whole book r)) of.kept c.args.new_day.now c.balance_after_entering.ensures
     c.numbers_lead_to_orders.ensures
     (sym c.is_open_on.ensures ∙ c.if-is_open_on.false) (sym c.is_closed.ensures ∙ c.if-not-is_closed.false)
     (sym c.is_before.ensures ∙ c.if-not-is_before.false) (sym c.is_weekend.ensures ∙ c.if-is_weekend.false)))
