@@ -20,13 +20,12 @@ use Rattle.rtgs_http_requests.specs.declared.heads.bank_route.BankRoute.TheVaria
 use Rattle.rtgs_http_requests.specs.declared.heads.route.Route.{Route}
 use Rattle.rtgs_http_requests.specs.declared.heads.route.Route.TheVariants.{Bank, Operator}
 use Rattle.rtgs_http_requests.specs.Bodies.{ReadsJson, body_length}
-use Rattle.rtgs_http_requests.specs.Callers.{CodeOf, caller_under, known}
+use Rattle.rtgs_http_requests.specs.Callers.{Caller, CodeOf, caller_under, known}
 use Rattle.rtgs_http_requests.specs.Contents.{FindsContent, OrderValues, HasOrder, HasNothing}
 use Rattle.rtgs_http_requests.specs.Exchange.{AsksFor, HasRegion, HasHead, HasRoute, HasCaller, HasBody}
 use Rattle.rtgs_http_requests.specs.Meaning.{Answer, AsksPlainly, AsksBatch, Means, MeansBank, SpellsDate}
 use Rattle.rtgs_http_requests.specs.Meaning.{SpellsDue, SpellsOrder, SpellsReference, said_by}
 use Rattle.rtgs_http_requests.specs.Steps.{Then, Goes}
-use Rattle.rtgs_http_requests.specs.declared.admitted.Admitted.{Admitted}
 use Rattle.rtgs_http_requests.specs.declared.admitted.Admitted.TheVariants as admitted
 use Rattle.rtgs_http_requests.specs.declared.asked.Asked.{Asked}
 use Rattle.rtgs_http_requests.specs.declared.asked.Asked.TheVariants.{Submit, Batch, Read}
@@ -105,7 +104,7 @@ bank_own ReadStatement caller parameter body asked x =
     same_own caller asked (Read (reading.Statement caller d.0)) d.2 refl
 
 -- a key under a route leads to the operator, or to the participant who has it
-keyed : (operator : List ℕ) (code_of : CodeOf) (route : Route) (digest : List ℕ) (caller : Admitted)
+keyed : (operator : List ℕ) (code_of : CodeOf) (route : Route) (digest : List ℕ) (caller : Caller)
     (parameter body : List ℕ) (asked : Asked)
     → Ok caller ≡ caller_under operator code_of route (Some digest) → Means caller parameter body (Ok asked)
     → MayAsk operator code_of digest asked
@@ -121,7 +120,7 @@ keyed operator code_of (Bank route) digest caller parameter body asked e means =
     own None found bad = let no : ⊥ = cc bad in absurd no
     own (Some code) found is =
         let same : caller ≡ admitted.Bank route code = cc is in
-        let P : Admitted → Type 0 = λ a. Means a parameter body (Ok asked) in
+        let P : Caller → Type 0 = λ a. Means a parameter body (Ok asked) in
         inr (code, found, bank_own route code parameter body asked (subst P same means))
 
     by : (same : Bool) → bytes_eq digest operator ≡ same → MayAsk operator code_of digest asked
@@ -144,7 +143,7 @@ own_alone operator code_of input asked x =
     parts.1 read.1
   where
     by : (region rest parameter body : List ℕ) (head : RequestHead) (declared : Option ℕ) (route : Route)
-        (caller : Admitted) (key : Option (List ℕ)) → HasKey (fields_of head) key
+        (caller : Caller) (key : Option (List ℕ)) → HasKey (fields_of head) key
         → Ok caller ≡ caller_under operator code_of route key
         → Means caller parameter body (Ok asked) → HasRegion input (Ok (region, rest))
         → HasHead region (Ok (head, declared))

@@ -9,14 +9,12 @@ use Rattle.rtgs_http_requests.specs.declared.heads.head_fault.HeadFault.{HeadFau
 use Rattle.rtgs_http_requests.specs.declared.heads.head_fault.HeadFault.TheVariants as head
 use Rattle.rtgs_http_requests.specs.declared.heads.route.Route.{Route}
 use Rattle.rtgs_http_requests.specs.Bodies.{body_length}
-use Rattle.rtgs_http_requests.specs.Callers.{CodeOf, caller_under, LeadsToCaller}
+use Rattle.rtgs_http_requests.specs.Callers.{Caller, CodeOf, caller_under, LeadsToCaller}
 use Rattle.rtgs_http_requests.specs.Exchange.{HasBody}
 use Rattle.rtgs_http_requests.specs.Faults.{of_head}
 use Rattle.rtgs_http_requests.specs.Meaning.{Answer, Means}
 use Rattle.rtgs_http_requests.specs.Steps.{Then, Goes}
-use Rattle.rtgs_http_requests.specs.declared.admission.Admission.{Admission}
-use Rattle.rtgs_http_requests.specs.declared.admission.Admission.TheVariants as admission
-use Rattle.rtgs_http_requests.specs.declared.admitted.Admitted.{Admitted}
+use Rattle.rtgs_http_requests.specs.declared.admitted.Admitted.TheVariants as admitted
 use Rattle.rtgs_http_requests.specs.declared.http_fault.HttpFault.{HttpFault}
 use Rattle.rtgs_http_requests.specs.declared.http_fault.HttpFault.TheVariants as fault
 use Rattle.rtgs_http_requests.specs.Plans.{Plans, MayLookUp, admitted_by}
@@ -52,20 +50,20 @@ key_fails operator region read bad parsed leads code_of input rest starts = (
   ),
 )
 
-led : (operator : List ℕ) (read : Head) (known : Admission) (code_of : CodeOf)
+led : (operator : List ℕ) (read : Head) (known : Caller) (code_of : CodeOf)
     → LeadsToCaller operator read.route read.key (Ok known) → caller_under operator code_of read.route read.key
     ≡ admitted_by code_of known
-led operator read (admission.Operator route) code_of leads = leads code_of
-led operator read (admission.LookUp route digest) code_of leads = leads.3 code_of
+led operator read (admitted.Operator route) code_of leads = leads code_of
+led operator read (admitted.Bank route digest) code_of leads = leads.3 code_of
 
-abbrev behind : Bool → Option ℕ → List ℕ → List ℕ → Admitted → Answer → Type 0
+abbrev behind : Bool → Option ℕ → List ℕ → List ℕ → Caller → Answer → Type 0
 behind posts length parameter rest caller =
     Then (λ parsed. parsed ≡ body_length posts length) (λ size.
     Then (HasBody rest size) (λ body.
     Means caller parameter body))
 
 same_behind : (posts other : Bool) (length declared : Option ℕ) (parameter rest : List ℕ)
-    (parsed : Result Admitted HttpFault) (answer : Answer)
+    (parsed : Result Caller HttpFault) (answer : Answer)
     → posts ≡ other → length ≡ declared → Goes (behind posts length parameter rest) answer parsed
     → Goes (behind other declared parameter rest) answer parsed
 same_behind posts other length declared parameter rest parsed answer p l goes =
@@ -75,7 +73,7 @@ same_behind posts other length declared parameter rest parsed answer p l goes =
 
 -- what is asked under a plan is asked by each input that starts with its region
 pub planned : (operator region : List ℕ) (read : Head) (plan : Plan) → ReadsHead region (Ok read)
-    → LeadsToCaller operator read.route read.key (Ok plan.admission)
+    → LeadsToCaller operator read.route read.key (Ok plan.caller)
     → plan.parameter.now ≡ read.parameter.now → plan.posts ≡ read.posts → plan.length ≡ read.length
     → Plans operator region (Ok plan)
 planned operator region read plan parsed leads parameter posts length code_of input rest answer starts after =
@@ -93,7 +91,7 @@ planned operator region read plan parsed leads parameter posts length code_of in
           parsed.3.route,
           (
             after.0,
-            (read.key, parsed.3.key, after.1 ∙ sym (led operator read plan.admission code_of leads)),
+            (read.key, parsed.3.key, after.1 ∙ sym (led operator read plan.caller code_of leads)),
             goes,
           ),
         ),
@@ -101,10 +99,10 @@ planned operator region read plan parsed leads parameter posts length code_of in
     )
 
 -- where a key leaves its bearer to be looked up, each input that starts with the region does
-pub looked_up : (operator region : List ℕ) (read : Head) (known : Admission) → ReadsHead region (Ok read)
+pub looked_up : (operator region : List ℕ) (read : Head) (known : Caller) → ReadsHead region (Ok read)
     → LeadsToCaller operator read.route read.key (Ok known) → MayLookUp operator region known
-looked_up operator region read (admission.Operator route) parsed leads = tt
-looked_up operator region read (admission.LookUp route digest) parsed leads = λ input rest starts. record {
+looked_up operator region read (admitted.Operator route) parsed leads = tt
+looked_up operator region read (admitted.Bank route digest) parsed leads = λ input rest starts. record {
   region = region;
   rest = rest;
   head = parsed.0;

@@ -20,13 +20,13 @@ use Rattle.rtgs_http_requests.specs.declared.heads.operator_route.OperatorRoute.
 use Rattle.rtgs_http_requests.specs.declared.heads.operator_route.OperatorRoute.TheVariants.{ReadReport}
 use Rattle.rtgs_http_requests.specs.declared.heads.operator_route.OperatorRoute.TheVariants.{ReadAccounts}
 use Rattle.rtgs_http_requests.specs.Bodies.{ReadsJson}
+use Rattle.rtgs_http_requests.specs.Callers.{Caller}
 use Rattle.rtgs_http_requests.specs.Contents.{FindsContent, OrderValues, HasOrder, HasPosting, HasCredit, HasDate}
 use Rattle.rtgs_http_requests.specs.Contents.{HasOpening, HasNothing}
 use Rattle.rtgs_http_requests.specs.Meaning.{AsksDay, AsksPlainly, Means, MeansBank, MeansOperator, SpellsReference}
 use Rattle.rtgs_http_requests.specs.Meaning.{Answer, SpellsDate, SpellsDue, SpellsOrder, IsPostingOf, SpellsCredit}
 use Rattle.rtgs_http_requests.specs.Meaning.{SpellsOpening, said_by}
 use Rattle.rtgs_http_requests.specs.Steps.{Then, HasAnswer}
-use Rattle.rtgs_http_requests.specs.declared.admitted.Admitted.{Admitted}
 use Rattle.rtgs_http_requests.specs.declared.admitted.Admitted.TheVariants as admitted
 use Rattle.rtgs_http_requests.specs.declared.asked.Asked.{Asked}
 use Rattle.rtgs_http_requests.specs.declared.asked.Asked.TheVariants.{Submit, Read}
@@ -257,6 +257,6 @@ operator_answered CloseDay parameter body = day_answered body (λ date. Submit (
 operator_answered ReadReport parameter body = dated_answered parameter (λ date. Read (reading.Report date))
 operator_answered ReadAccounts parameter body = value_answered (Read reading.Accounts)
 
-pub meaning_answered : Global → (caller : Admitted) (parameter body : List ℕ) → HasAnswer (Means caller parameter body)
+pub meaning_answered : Global → (caller : Caller) (parameter body : List ℕ) → HasAnswer (Means caller parameter body)
 meaning_answered alloc (admitted.Bank route caller) parameter body = bank_answered alloc route caller parameter body
 meaning_answered alloc (admitted.Operator route) parameter body = operator_answered route parameter body

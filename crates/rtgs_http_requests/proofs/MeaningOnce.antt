@@ -14,6 +14,7 @@ use Rattle.rtgs_http_requests.specs.declared.heads.operator_route.OperatorRoute.
 use Rattle.rtgs_http_requests.specs.declared.heads.operator_route.OperatorRoute.TheVariants.{ReadReport}
 use Rattle.rtgs_http_requests.specs.declared.heads.operator_route.OperatorRoute.TheVariants.{ReadAccounts}
 use Rattle.rtgs_http_requests.specs.Bodies.{ReadsJson}
+use Rattle.rtgs_http_requests.specs.Callers.{Caller}
 use Rattle.rtgs_http_requests.specs.Contents.{FindsContent, HasOrder, HasPosting, HasCredit, HasDate, HasOpening}
 use Rattle.rtgs_http_requests.specs.Contents.{HasNothing}
 use Rattle.rtgs_http_requests.specs.Meaning.{Answer, AsksBatch, AsksDay, AsksPlainly, Means, MeansBank, MeansOperator}
@@ -21,7 +22,6 @@ use Rattle.rtgs_http_requests.specs.Meaning.{SpellsReference, SpellsDate, Spells
 use Rattle.rtgs_http_requests.specs.Meaning.{SpellsOpening}
 use Rattle.rtgs_http_requests.specs.Same.{AreTheSame}
 use Rattle.rtgs_http_requests.specs.Steps.{Then}
-use Rattle.rtgs_http_requests.specs.declared.admitted.Admitted.{Admitted}
 use Rattle.rtgs_http_requests.specs.declared.admitted.Admitted.TheVariants as admitted
 use Rattle.rtgs_http_requests.specs.declared.asked.Asked.{Asked}
 use Rattle.rtgs_http_requests.specs.declared.asked.Asked.TheVariants.{Submit, Batch, Read}
@@ -143,7 +143,7 @@ operator_once laws CloseDay parameter body = day_once laws body (λ date. Ok (Su
 operator_once laws ReadReport parameter body = dated_once laws parameter (λ date. Ok (Read (reading.Report date)))
 operator_once laws ReadAccounts parameter body = equal_outcome (Ok (Read reading.Accounts))
 
-pub meant_once : LowerLaws → (caller : Admitted) (parameter body : List ℕ) (one other : Answer)
+pub meant_once : LowerLaws → (caller : Caller) (parameter body : List ℕ) (one other : Answer)
     → Means caller parameter body one → Means caller parameter body other → Agree AreTheSame one other
 meant_once laws (admitted.Bank route caller) parameter body one other x y =
     bank_once laws route caller parameter body one other x y

@@ -4,16 +4,15 @@ use Rattle.httparse.specs.Grammar.{RequestHead}
 use Rattle.rtgs_http_requests.specs.heads.Targets.{is_post}
 use Rattle.rtgs_http_requests.specs.declared.heads.route.Route.{Route}
 use Rattle.rtgs_http_requests.specs.Bodies.{body_length}
-use Rattle.rtgs_http_requests.specs.Callers.{CodeOf}
+use Rattle.rtgs_http_requests.specs.Callers.{Caller, CodeOf}
 use Rattle.rtgs_http_requests.specs.Exchange.{HasHead, HasRoute, HasCaller, HasBody}
 use Rattle.rtgs_http_requests.specs.Meaning.{Answer, Means}
 use Rattle.rtgs_http_requests.specs.Steps.{Then}
-use Rattle.rtgs_http_requests.specs.declared.admitted.Admitted.{Admitted}
 
-abbrev pub after_size : List ℕ → List ℕ → Admitted → ℕ → Answer → Type 0
+abbrev pub after_size : List ℕ → List ℕ → Caller → ℕ → Answer → Type 0
 after_size rest parameter caller size = Then (HasBody rest size) (λ body. Means caller parameter body)
 
-abbrev pub after_caller : RequestHead → Option ℕ → List ℕ → List ℕ → Admitted → Answer → Type 0
+abbrev pub after_caller : RequestHead → Option ℕ → List ℕ → List ℕ → Caller → Answer → Type 0
 after_caller head declared rest parameter caller =
     Then (λ outcome. outcome ≡ body_length (is_post head.method) declared) (after_size rest parameter caller)
 

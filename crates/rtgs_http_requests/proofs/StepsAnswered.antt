@@ -15,11 +15,10 @@ use Rattle.rtgs_http_requests.specs.declared.heads.bank_route.BankRoute.{BankRou
 use Rattle.rtgs_http_requests.specs.declared.heads.route.Route.{Route}
 use Rattle.rtgs_http_requests.specs.declared.heads.route.Route.TheVariants.{Bank, Operator}
 use Rattle.rtgs_http_requests.specs.Bodies.{body_length}
-use Rattle.rtgs_http_requests.specs.Callers.{CodeOf, caller_under, known}
+use Rattle.rtgs_http_requests.specs.Callers.{Caller, CodeOf, caller_under, known}
 use Rattle.rtgs_http_requests.specs.Exchange.{AsksFor, HasRegion, HasHead, HasRoute, HasCaller, HasBody}
 use Rattle.rtgs_http_requests.specs.Meaning.{Means}
 use Rattle.rtgs_http_requests.specs.Steps.{HasAnswer}
-use Rattle.rtgs_http_requests.specs.declared.admitted.Admitted.{Admitted}
 use Rattle.rtgs_http_requests.specs.declared.admitted.Admitted.TheVariants as admitted
 use Rattle.rtgs_http_requests.specs.declared.http_fault.HttpFault.{HttpFault}
 use Rattle.rtgs_http_requests.specs.declared.http_fault.HttpFault.TheVariants as fault
@@ -60,13 +59,13 @@ caller_takes_no_memory : (operator : List ℕ) (code_of : CodeOf) (route : Route
 caller_takes_no_memory operator code_of route None = λ e. cc
 caller_takes_no_memory operator code_of (Operator route) (Some digest) = by (bytes_eq digest operator)
   where
-    by : (same : Bool) → ◌≢◌ {A = Result Admitted HttpFault}
+    by : (same : Bool) → ◌≢◌ {A = Result Caller HttpFault}
         (if same then Ok (admitted.Operator route) else Err fault.NoKey) (Err fault.OutOfMemory)
     by true e = cc
     by false e = cc
 caller_takes_no_memory operator code_of (Bank route) (Some digest) = by (bytes_eq digest operator)
   where
-    by : (same : Bool) → ◌≢◌ {A = Result Admitted HttpFault}
+    by : (same : Bool) → ◌≢◌ {A = Result Caller HttpFault}
         (if same then Err fault.NoKey else known route (code_of digest)) (Err fault.OutOfMemory)
     by true e = cc
     by false e = known_takes_no_memory route (code_of digest) e
@@ -100,13 +99,13 @@ body_answered rest size none = by (cases_lt (length rest) size)
     by (inr enough) = let clash = none (Ok (take size rest)) (enough, refl) in cc
 
 -- the steps from the length on, from the caller on, and so on
-size_on : Global → (rest parameter : List ℕ) (caller : Admitted) (size : ℕ)
+size_on : Global → (rest parameter : List ℕ) (caller : Caller) (size : ℕ)
     → HasAnswer (after_size rest parameter caller size)
 size_on alloc rest parameter caller size =
     then_answered (HasBody rest size) (λ body. Means caller parameter body) (body_answered rest size)
     (λ body. meaning_answered alloc caller parameter body)
 
-caller_on : Global → (head : RequestHead) (declared : Option ℕ) (rest parameter : List ℕ) (caller : Admitted)
+caller_on : Global → (head : RequestHead) (declared : Option ℕ) (rest parameter : List ℕ) (caller : Caller)
     → HasAnswer (after_caller head declared rest parameter caller)
 caller_on alloc head declared rest parameter caller =
     then_answered (λ outcome. outcome ≡ body_length (is_post head.method) declared) (after_size rest parameter caller)

@@ -8,11 +8,10 @@ use Rattle.rtgs_http_requests.specs.heads.Heads.{IsGoodHead, fields_of}
 use Rattle.rtgs_http_requests.specs.heads.Targets.{routed, is_post}
 use Rattle.rtgs_http_requests.specs.declared.heads.route.Route.{Route}
 use Rattle.rtgs_http_requests.specs.Bodies.{body_length}
-use Rattle.rtgs_http_requests.specs.Callers.{CodeOf, caller_under}
+use Rattle.rtgs_http_requests.specs.Callers.{Caller, CodeOf, caller_under}
 use Rattle.rtgs_http_requests.specs.Exchange.{AsksFor, HasRegion, HasHead, HasRoute, HasCaller, HasBody}
 use Rattle.rtgs_http_requests.specs.Meaning.{Answer, Means}
 use Rattle.rtgs_http_requests.specs.Same.{AreTheSame}
-use Rattle.rtgs_http_requests.specs.declared.admitted.Admitted.{Admitted}
 use Rattle.rtgs_http_requests.specs.declared.http_fault.HttpFault.{HttpFault}
 use Rattle.rtgs_http_requests.specs.declared.http_fault.HttpFault.TheVariants as fault
 use Rattle.rtgs_http_requests.proofs.Agreement.{Agree, IsDetermined, Tells, once_outcome, equal_outcome, then_once}
@@ -107,14 +106,14 @@ fault_same : (bad : HttpFault) → AreTheSame (Err bad) (Err bad)
 fault_same bad = refl
 
 -- the steps from the length on, from the caller on, and so on
-size_on : LowerLaws → (rest parameter : List ℕ) (caller : Admitted) (size : ℕ) (one other : Answer)
+size_on : LowerLaws → (rest parameter : List ℕ) (caller : Caller) (size : ℕ) (one other : Answer)
     → after_size rest parameter caller size one → after_size rest parameter caller size other
     → Agree AreTheSame one other
 size_on laws rest parameter caller size one other x y =
     then_once AreTheSame fault_same (HasBody rest size) (λ body. Means caller parameter body) (body_once rest size)
     (λ body. meant_once laws caller parameter body) one other x y
 
-caller_on : LowerLaws → (head : RequestHead) (declared : Option ℕ) (rest parameter : List ℕ) (caller : Admitted)
+caller_on : LowerLaws → (head : RequestHead) (declared : Option ℕ) (rest parameter : List ℕ) (caller : Caller)
     (one other : Answer)
     → after_caller head declared rest parameter caller one → after_caller head declared rest parameter caller other
     → Agree AreTheSame one other

@@ -6,12 +6,11 @@ use Rattle.rtgs_http_requests.specs.heads.Fields.{HasKey}
 use Rattle.rtgs_http_requests.specs.heads.Heads.{IsGoodHead, fields_of}
 use Rattle.rtgs_http_requests.specs.heads.Targets.{routed, is_post}
 use Rattle.rtgs_http_requests.specs.declared.heads.route.Route.{Route}
-use Rattle.rtgs_http_requests.specs.declared.admitted.Admitted.{Admitted}
 use Rattle.rtgs_http_requests.specs.declared.http_fault.HttpFault.{HttpFault}
 use Rattle.rtgs_http_requests.specs.declared.http_fault.HttpFault.TheVariants.{BadHead, HeadTooLong, Truncated}
 use Rattle.rtgs_http_requests.specs.declared.http_fault.HttpFault.TheVariants.{NoSuchRoute, OutOfMemory}
 use Rattle.rtgs_http_requests.specs.Bodies.{body_length}
-use Rattle.rtgs_http_requests.specs.Callers.{CodeOf, caller_under}
+use Rattle.rtgs_http_requests.specs.Callers.{Caller, CodeOf, caller_under}
 use Rattle.rtgs_http_requests.specs.Meaning.{Answer, Means}
 use Rattle.rtgs_http_requests.specs.Steps.{Then}
 
@@ -37,7 +36,7 @@ HasRoute head (Err OutOfMemory) = ⊤
 HasRoute head (Err _) = ⊥
 
 -- the caller whom the route takes
-abbrev pub HasCaller : List ℕ → CodeOf → Route → RequestHead → Result Admitted HttpFault → Type 0
+abbrev pub HasCaller : List ℕ → CodeOf → Route → RequestHead → Result Caller HttpFault → Type 0
 HasCaller operator code_of route head outcome =
     (key : Option (List ℕ)) × HasKey (fields_of head) key × (outcome ≡ caller_under operator code_of route key)
 

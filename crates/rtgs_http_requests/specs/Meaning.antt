@@ -17,7 +17,6 @@ use Rattle.rtgs_http_requests.specs.declared.heads.operator_route.OperatorRoute.
 use Rattle.rtgs_http_requests.specs.declared.heads.operator_route.OperatorRoute.TheVariants.{Post, SetCredit, OpenDay}
 use Rattle.rtgs_http_requests.specs.declared.heads.operator_route.OperatorRoute.TheVariants.{Resolve, CutOff, CloseDay}
 use Rattle.rtgs_http_requests.specs.declared.heads.operator_route.OperatorRoute.TheVariants.{ReadReport, ReadAccounts}
-use Rattle.rtgs_http_requests.specs.declared.admitted.Admitted.{Admitted}
 use Rattle.rtgs_http_requests.specs.declared.admitted.Admitted.TheVariants as admitted
 use Rattle.rtgs_http_requests.specs.declared.asked.Asked.{Asked}
 use Rattle.rtgs_http_requests.specs.declared.asked.Asked.TheVariants.{Submit, Batch, Read}
@@ -25,6 +24,7 @@ use Rattle.rtgs_http_requests.specs.declared.http_fault.HttpFault.{HttpFault}
 use Rattle.rtgs_http_requests.specs.declared.http_fault.HttpFault.TheVariants as fault
 use Rattle.rtgs_book.specs.declared.reading.Reading.TheVariants as reading
 use Rattle.rtgs_http_requests.specs.Bodies.{ReadsJson}
+use Rattle.rtgs_http_requests.specs.Callers.{Caller}
 use Rattle.rtgs_http_requests.specs.Contents.{FindsContent, OrderValues, HasOrder, HasPosting, HasCredit, HasDate}
 use Rattle.rtgs_http_requests.specs.Contents.{HasOpening, HasNothing}
 use Rattle.rtgs_http_requests.specs.Steps.{Then}
@@ -158,6 +158,6 @@ MeansOperator ReadReport parameter body answer = AsksReport parameter answer
 MeansOperator ReadAccounts parameter body answer = answer ≡ Ok (Read reading.Accounts)
 
 -- what an admitted caller asks for
-abbrev pub Means : Admitted → List ℕ → List ℕ → Answer → Type 0
+abbrev pub Means : Caller → List ℕ → List ℕ → Answer → Type 0
 Means (admitted.Bank route caller) parameter body answer = MeansBank route caller parameter body answer
 Means (admitted.Operator route) parameter body answer = MeansOperator route parameter body answer

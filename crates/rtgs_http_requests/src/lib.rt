@@ -2,7 +2,6 @@
 //! the fault of the first step that fails. And input that comes in pieces (`feeds`), and heads of requests (`heads`).
 #![tactic(auto)]
 
-mod admission;
 mod admitted;
 mod asked;
 mod bank_requests;
@@ -17,7 +16,6 @@ mod operator_requests;
 mod plan;
 mod spelling;
 
-pub use crate::admission::Admission;
 pub use crate::admitted::Admitted;
 pub use crate::asked::Asked;
 pub use crate::body::body_length;

@@ -1,7 +1,7 @@
 //! What a head leaves to be known.
 ghost use Rattle.std.specs.Prelude.{IfOk};
 
-use crate::admission::Admission;
+use crate::admitted::Admitted;
 use crate::heads::Head;
 use crate::http_fault::HttpFault;
 use rtgs_money::KeyDigest;
@@ -10,7 +10,7 @@ use std::alloc::Global;
 /// What a head leaves to be known: who the caller is, and what the body says.
 #[derive(Clone, Copy, Debug)]
 pub struct Plan<'a> {
-    pub admission: Admission,
+    pub caller: Admitted<KeyDigest>,
     pub parameter: &'a str,
     pub posts: bool,
     pub length: Option<u32>,
@@ -27,18 +27,18 @@ impl<'a> Plan<'a> {
         region: &'a [u8],
     ) -> Result<Plan<'a>, HttpFault>
         ensures plans { Plans operator.now region.now result }
-        ensures looks_up { IfOk result (λ plan. MayLookUp operator.now region.now plan.admission) }
+        ensures looks_up { IfOk result (λ plan. MayLookUp operator.now region.now plan.caller) }
     {
         let head = match Head::read(alloc, region) {
             Ok(head) => head,
             Err(fault) => return Err(HttpFault::from(fault)),
         };
-        let admission = match Admission::of_key(head.route, head.key, operator) {
-            Ok(admission) => admission,
+        let caller = match Admitted::of_key(head.route, head.key, operator) {
+            Ok(caller) => caller,
             Err(fault) => return Err(fault),
         };
         Ok(Plan {
-            admission,
+            caller,
             parameter: head.parameter,
             posts: head.posts,
             length: head.length,

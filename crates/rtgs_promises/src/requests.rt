@@ -46,7 +46,7 @@ use std::io::{Read, Write};
 /// the book and the request's bytes, whole or a beginning of it; the commands that were given are those that these
 /// bytes ask for, and the bearer of the key may give them; and the stop that comes then leaves what promise 1 says.
 /// Where the reader fails, nothing was done. So it is with whatever a crash leaves where no desk opens again.
-// To judge it, read these 85 files, 541 definitions: rtgs_promises Headline, Keys; rtgs_desk Holding, Seen,
+// To judge it, read these 85 files, 542 definitions: rtgs_promises Headline, Keys; rtgs_desk Holding, Seen,
 // batches.Batches, batches.Sent, Replies, Readings; rtgs_http_server banks.Serving, banks.Exchange, banks.Handling,
 // input.Input, banks.ReplyMessages; rtgs_rows Content, Keeping, Fitting, Tables, Dues, Rows; rtgs_book Calm, Soundness,
 // cores.Cores, Session, Run, Laws, Ranges, Procedure, Refusals, Standings; rtgs_http_bodies replies.Messages,
@@ -89,7 +89,7 @@ pub fn serve_and_stop<R: Read, W: Write, S: Alter + Reopen + Drop>(
 
 /// **Promise 12. A request has one meaning.** What it asks for and its reply are a function of the book and the
 /// request's bytes. Set aside is lack of memory, and for the reply a fault of the store: the status is then 503.
-// To judge it, read these 75 files, 465 definitions: rtgs_desk Seen, Holding, batches.Batches, batches.Sent, Replies,
+// To judge it, read these 75 files, 466 definitions: rtgs_desk Seen, Holding, batches.Batches, batches.Sent, Replies,
 // Readings; rtgs_http_bodies replies.Messages, desks.Written, replies.Kinds, Refusals, Statuses, Answers,
 // replies.Texts, replies.Bodies, Readings, desks.Accounts; rtgs_http_server banks.Exchange, reply_laws.Alike,
 // banks.Handling, banks.ReplyMessages; rtgs_http_requests Same, Exchange, Meaning, Callers, Steps, Bodies,
@@ -115,7 +115,7 @@ pub fn a_book_and_an_input_have_one_reply<K: Keeper>()
 /// **Promise 13. Nobody acts but with his own key.** The commands of a request are those of the operator's key, or
 /// orders and withdrawals of the participant whose key the input carries. Whatever a desk holds, a request changes it
 /// only for what the bearer of a key may ask.
-// To judge it, read these 76 files, 470 definitions: rtgs_promises Keys; rtgs_desk Seen, batches.Batches, Holding,
+// To judge it, read these 76 files, 471 definitions: rtgs_promises Keys; rtgs_desk Seen, batches.Batches, Holding,
 // batches.Sent, Replies, Readings; rtgs_http_bodies replies.Messages, desks.Written, Refusals, replies.Kinds, Statuses,
 // Answers, replies.Texts, replies.Bodies, Readings, desks.Accounts; rtgs_http_server banks.Exchange, banks.Handling,
 // banks.ReplyMessages; rtgs_http_requests Access, Exchange, feeds.Region, heads.Heads, heads.Fields, Callers, Meaning,
@@ -135,7 +135,7 @@ pub fn nobody_acts_with_the_key_of_another<K: Keeper>()
 
 /// **Promise 13. And nobody reads the rows of others.** Two books that agree in a participant's own rows give the same
 /// reply to each reading that carries its key. Set aside are replies with the status 503.
-// To judge it, read these 74 files, 466 definitions: rtgs_desk Seen, Holding, batches.Batches, batches.Sent, Replies,
+// To judge it, read these 74 files, 467 definitions: rtgs_desk Seen, Holding, batches.Batches, batches.Sent, Replies,
 // Readings; rtgs_http_bodies replies.Messages, desks.Written, replies.Kinds, Refusals, Statuses, Answers,
 // replies.Texts, replies.Bodies, Readings, desks.Accounts; rtgs_http_server reply_laws.Own, banks.Exchange,
 // banks.Handling, banks.ReplyMessages; rtgs_http_requests Exchange, Access, Callers, Meaning, Steps, Bodies,

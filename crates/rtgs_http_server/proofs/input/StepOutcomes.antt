@@ -6,12 +6,9 @@ use Rattle.rtgs_http_requests.specs.feeds.Region.{IsRegion, StartsWith}
 use Rattle.rtgs_http_requests.specs.declared.heads.bank_route.BankRoute.{BankRoute}
 use Rattle.rtgs_http_requests.specs.declared.heads.operator_route.OperatorRoute.{OperatorRoute}
 use Rattle.rtgs_http_requests.specs.Bodies.{body_length}
-use Rattle.rtgs_http_requests.specs.Callers.{CodeOf, known}
+use Rattle.rtgs_http_requests.specs.Callers.{Caller, CodeOf, known}
 use Rattle.rtgs_http_requests.specs.Exchange.{HasBody, HasRegion}
 use Rattle.rtgs_http_requests.specs.Plans.{Plans, MayLookUp, AfterCaller, admitted_by}
-use Rattle.rtgs_http_requests.specs.declared.admission.Admission.{Admission}
-use Rattle.rtgs_http_requests.specs.declared.admission.Admission.TheVariants as admission
-use Rattle.rtgs_http_requests.specs.declared.admitted.Admitted.{Admitted}
 use Rattle.rtgs_http_requests.specs.declared.admitted.Admitted.TheVariants as admitted
 use Rattle.rtgs_http_requests.specs.declared.asked.Asked.{Asked}
 use Rattle.rtgs_http_requests.specs.declared.http_fault.HttpFault.{HttpFault}
@@ -33,30 +30,30 @@ region_fails Knows operator input DirectoryFailed h = absurd h
 region_fails Knows operator input (Faulty fault) h = λ code_of known. (Err fault, h, refl)
 
 pub caller_fails : (Knows : CodeOf → Type 0) (operator region : List ℕ) (plan : Plan) (input rest : List ℕ)
-    (unread : Unread) → Plans operator region (Ok plan) → MayLookUp operator region plan.admission
-    → StartsWith input region rest → FindsCaller Knows plan.admission (Err unread)
+    (unread : Unread) → Plans operator region (Ok plan) → MayLookUp operator region plan.caller
+    → StartsWith input region rest → FindsCaller Knows plan.caller (Err unread)
     → Requests Knows operator input (Err unread)
 caller_fails Knows operator region plan input rest (Reader failed) plans looks starts h = absurd h
 caller_fails Knows operator region plan input rest DirectoryFailed plans looks starts h =
-    subst (λ (a : Admission). MayLookUp operator region a) h.2 looks input rest starts
+    subst (λ (a : Caller). MayLookUp operator region a) h.2 looks input rest starts
 caller_fails Knows operator region plan input rest (Faulty fault) plans looks starts h =
     λ code_of known. plans code_of input rest _ starts (Err fault, h code_of known, refl)
 
-pub operator_found : (Knows : CodeOf → Type 0) (given : Admission) (route : OperatorRoute)
-    → given ≡ admission.Operator route → FindsCaller Knows given (Ok (admitted.Operator route))
+pub operator_found : (Knows : CodeOf → Type 0) (given : Caller) (route : OperatorRoute)
+    → given ≡ admitted.Operator route → FindsCaller Knows given (Ok (admitted.Operator route))
 operator_found Knows given route e =
-    subst (λ (a : Admission). FindsCaller Knows a (Ok (admitted.Operator route))) (sym e)
+    subst (λ (a : Caller). FindsCaller Knows a (Ok (admitted.Operator route))) (sym e)
     ((λ digest. None, refl), λ code_of known. refl)
 
-pub participant_found : (Knows : CodeOf → Type 0) (given : Admission) (route : BankRoute) (digest caller : List ℕ)
-    → given ≡ admission.LookUp route digest
+pub participant_found : (Knows : CodeOf → Type 0) (given : Caller) (route : BankRoute) (digest caller : List ℕ)
+    → given ≡ admitted.Bank route digest
     → ((code_of : CodeOf) → Knows code_of → Some caller ≡ code_of digest)
     → FindsCaller Knows given (Ok (admitted.Bank route caller))
 participant_found Knows given route digest caller e found =
-    subst (λ (a : Admission). FindsCaller Knows a (Ok (admitted.Bank route caller))) (sym e)
+    subst (λ (a : Caller). FindsCaller Knows a (Ok (admitted.Bank route caller))) (sym e)
     ((λ other. Some caller, refl), λ code_of knows. ap (known route) (found code_of knows))
 
-pub body_fails : (plan : Plan) (rest : List ℕ) (caller : Admitted) (size : ℕ) (unread : Unread)
+pub body_fails : (plan : Plan) (rest : List ℕ) (caller : Caller) (size : ℕ) (unread : Unread)
     → Ok size ≡ body_length plan.posts plan.length
     → StepFails (λ fault. HasBody rest size (Err fault)) unread
     → StepFails (λ fault. AfterCaller plan rest caller (Err fault)) unread
@@ -65,8 +62,8 @@ body_fails plan rest caller size DirectoryFailed e h = absurd h
 body_fails plan rest caller size (Faulty fault) e h = (Ok size, e, (Err fault, h, refl))
 
 pub content_read : (Knows : CodeOf → Type 0) (operator region : List ℕ) (plan : Plan) (input rest : List ℕ)
-    (caller : Admitted) (result : Result Asked Unread) → Plans operator region (Ok plan) → StartsWith input region rest
-    → FindsCaller Knows plan.admission (Ok caller) → Says (AfterCaller plan rest caller) result
+    (caller : Caller) (result : Result Asked Unread) → Plans operator region (Ok plan) → StartsWith input region rest
+    → FindsCaller Knows plan.caller (Ok caller) → Says (AfterCaller plan rest caller) result
     → Requests Knows operator input result
 content_read Knows operator region plan input rest caller (Ok asked) plans starts e h = (
   (e.0.0, plans e.0.0 input rest _ starts (Ok caller, e.0.1, h)),

@@ -1,12 +1,10 @@
 -- What is read of an input.
 use Rattle.std.specs.Prelude.{◌≡◌, ⊤, ℕ, List, ◌++◌, take, drop, Option, Some, None, Result, Ok, Err}
 use Rattle.rtgs_http_requests.specs.declared.heads.bank_route.BankRoute.{BankRoute}
-use Rattle.rtgs_http_requests.specs.Callers.{CodeOf}
+use Rattle.rtgs_http_requests.specs.Callers.{Caller, CodeOf}
 use Rattle.rtgs_http_requests.specs.Exchange.{AsksFor}
 use Rattle.rtgs_http_requests.specs.Plans.{PlanLooksUp, admitted_by}
-use Rattle.rtgs_http_requests.specs.declared.admission.Admission.{Admission}
-use Rattle.rtgs_http_requests.specs.declared.admission.Admission.TheVariants.{LookUp}
-use Rattle.rtgs_http_requests.specs.declared.admitted.Admitted.{Admitted}
+use Rattle.rtgs_http_requests.specs.declared.admitted.Admitted.TheVariants.{Bank}
 use Rattle.rtgs_http_requests.specs.declared.asked.Asked.{Asked}
 use Rattle.rtgs_http_requests.specs.declared.http_fault.HttpFault.{HttpFault}
 use Rattle.rtgs_http_server.specs.declared.input.unread.Unread.{Unread}
@@ -36,17 +34,17 @@ abbrev pub Says : {X : Type 0} → (Result X HttpFault → Type 0) → Result X 
 Says Step (Ok value) = Step (Ok value)
 Says Step (Err unread) = StepFails (λ fault. Step (Err fault)) unread
 
--- The caller of an admission is this one for some participants, and whoever the participants are that the directory
--- knows. It has failed only where the caller is to be looked up. Nothing is read.
-abbrev pub FindsCaller : (CodeOf → Type 0) → Admission → Result Admitted Unread → Type 0
-FindsCaller Knows admission (Ok caller) =
-    ((code_of : CodeOf) × (Ok caller ≡ admitted_by code_of admission))
-    × ((code_of : CodeOf) → Knows code_of → Ok caller ≡ admitted_by code_of admission)
-FindsCaller Knows admission (Err (Faulty fault)) =
-    (code_of : CodeOf) → Knows code_of → Err fault ≡ admitted_by code_of admission
-FindsCaller Knows admission (Err DirectoryFailed) =
-    (route : BankRoute) × (digest : List ℕ) × (admission ≡ LookUp route digest)
-FindsCaller Knows admission (Err (Reader failed)) = ⊥
+-- The caller who is known by a digest is this one for some participants, and whoever the participants are that the
+-- directory knows. It has failed only where the caller is to be looked up. Nothing is read.
+abbrev pub FindsCaller : (CodeOf → Type 0) → Caller → Result Caller Unread → Type 0
+FindsCaller Knows bearer (Ok caller) =
+    ((code_of : CodeOf) × (Ok caller ≡ admitted_by code_of bearer))
+    × ((code_of : CodeOf) → Knows code_of → Ok caller ≡ admitted_by code_of bearer)
+FindsCaller Knows bearer (Err (Faulty fault)) =
+    (code_of : CodeOf) → Knows code_of → Err fault ≡ admitted_by code_of bearer
+FindsCaller Knows bearer (Err DirectoryFailed) =
+    (route : BankRoute) × (digest : List ℕ) × (bearer ≡ Bank route digest)
+FindsCaller Knows bearer (Err (Reader failed)) = ⊥
 
 -- What the input asks for, or its fault, is this one, whoever the participants are that the directory knows. Also of a
 -- directory that knows none, what is asked is asked for some participants. The directory has failed only where the

@@ -10,8 +10,8 @@ use crate::input::directory::Directory;
 use crate::input::head::read_region;
 use crate::input::piece::PIECE;
 use crate::input::unread::Unread;
-use rtgs_http_requests::{Admission, Admitted, Asked, HttpFault, Plan, body_length, read_asked};
-use rtgs_money::KeyDigest;
+use rtgs_http_requests::{Admitted, Asked, HttpFault, Plan, body_length, read_asked};
+use rtgs_money::{Code, KeyDigest};
 use std::alloc::Global;
 use std::io::Read;
 
@@ -60,20 +60,26 @@ fn read_behind<R: Read, D: Directory>(
         Ok(plan) => plan,
         Err(fault) => return Err(Unread::Faulty(fault)),
     };
-    let caller = match caller_of(directory, plan.admission) {
+    let caller = match caller_of(directory, plan.caller) {
         Ok(caller) => caller,
         Err(unread) => return Err(unread),
     };
     read_content(alloc, reader, &plan, caller, piece, from, to)
 }
 
-fn caller_of<D: Directory>(directory: &D, admission: Admission) -> Result<Admitted, Unread>
-    ensures caller { FindsCaller (D.knows directory.now) admission result }
+fn caller_of<D: Directory>(
+    directory: &D,
+    bearer: Admitted<KeyDigest>,
+) -> Result<Admitted<Code>, Unread>
+    ensures caller { FindsCaller (D.knows directory.now) bearer result }
     ensures failed { result ≡ Err Unread.DirectoryFailed → D.has_failed directory.now ≡ true }
 {
-    match admission {
-        Admission::Operator { route } => Ok(Admitted::Operator { route }),
-        Admission::LookUp { route, digest } => match directory.code_of(&digest) {
+    match bearer {
+        Admitted::Operator { route } => Ok(Admitted::Operator { route }),
+        Admitted::Bank {
+            route,
+            caller: digest,
+        } => match directory.code_of(&digest) {
             Ok(Some(caller)) => Ok(Admitted::Bank { route, caller }),
             Ok(None) => Err(Unread::Faulty(HttpFault::NoKey)),
             Err(_) => Err(Unread::DirectoryFailed),
@@ -86,7 +92,7 @@ fn read_content<R: Read>(
     alloc: Global,
     reader: &mut R,
     plan: &Plan,
-    caller: Admitted,
+    caller: Admitted<Code>,
     piece: &mut [u8; PIECE],
     from: usize,
     to: usize,

@@ -18,7 +18,7 @@ returns-in-Err-of_key-clause-plans c =
 pub returns-clause-plans : goal.returns-clause-plans
 returns-clause-plans c =
     let plan : Plan = record {
-      admission = c.in-Ok-of_key.admission;
+      caller = c.in-Ok-of_key.caller;
       parameter = c.in-Ok.head.parameter;
       posts = c.in-Ok.head.posts;
       length = c.in-Ok.head.length;
@@ -28,5 +28,5 @@ returns-clause-plans c =
 
 pub returns-clause-looks_up : goal.returns-clause-looks_up
 returns-clause-looks_up c =
-    looked_up c.args.operator.now c.args.region.now c.in-Ok.head c.in-Ok-of_key.admission c.in-Ok.ensures
+    looked_up c.args.operator.now c.args.region.now c.in-Ok.head c.in-Ok-of_key.caller c.in-Ok.ensures
     c.in-Ok-of_key.ensures
