@@ -1,9 +1,11 @@
 -- The steps of a head and of a key, put together.
-use Rattle.std.proofs.Common.{◌≡◌, ℕ, List, Bool, Option, Some, Result, Ok, Err, refl, sym, ◌∙◌, subst}
-use Rattle.rtgs_http_requests.specs.heads.Asking.{ReadsHead}
+use Rattle.std.proofs.Common.{◌≡◌, ℕ, List, Bool, Option, Some, None, Result, Ok, Err, refl, sym, ap, ◌∙◌, subst}
+use Rattle.std.specs.Borrow.{Bor}
+use Rattle.httparse.specs.Grammar.{RequestHead}
 use Rattle.rtgs_http_requests.specs.heads.Fields.{HasKey}
-use Rattle.rtgs_http_requests.specs.heads.Heads.{fields_of}
-use Rattle.rtgs_http_requests.specs.heads.Targets.{is_post, routed}
+use Rattle.rtgs_http_requests.specs.heads.Heads.{IsGoodHead, fields_of}
+use Rattle.rtgs_http_requests.specs.heads.Requests.{HasParts}
+use Rattle.rtgs_http_requests.specs.heads.Targets.{is_post, routed, GivesRoute}
 use Rattle.rtgs_http_requests.specs.declared.heads.head.Head.{Head}
 use Rattle.rtgs_http_requests.specs.declared.heads.head_fault.HeadFault.{HeadFault}
 use Rattle.rtgs_http_requests.specs.declared.heads.head_fault.HeadFault.TheVariants as head
@@ -20,41 +22,71 @@ use Rattle.rtgs_http_requests.specs.declared.http_fault.HttpFault.TheVariants as
 use Rattle.rtgs_http_requests.specs.Plans.{Plans, MayLookUp, admitted_by}
 use Rattle.rtgs_http_requests.specs.declared.plan.Plan.{Plan}
 
--- the fault of a head is that of each input that starts with it
-pub head_fails : (operator region : List ℕ) (bad : HeadFault) → ReadsHead region (Err bad)
-    → Plans operator region (Err (of_head bad))
-head_fails operator region head.BadHead parsed code_of input rest starts =
-    (Ok (region, rest), starts, (Err fault.BadHead, parsed, refl))
-head_fails operator region head.NoSuchRoute parsed code_of input rest starts =
-    (Ok (region, rest), starts, (Ok (parsed.0, parsed.1), parsed.2, (Err fault.NoSuchRoute, parsed.3, refl)))
-head_fails operator region head.OutOfMemory parsed code_of input rest starts = (Err fault.OutOfMemory, tt, refl)
+-- a region that is no good head has this fault in each input that starts with it
+pub no_head : (operator region : List ℕ)
+    → ((read : RequestHead) (declared : Option ℕ) → ¬ IsGoodHead region read declared)
+    → Plans operator region (Err fault.BadHead)
+no_head operator region none code_of input rest starts = (Ok (region, rest), starts, (Err fault.BadHead, none, refl))
 
--- so is the fault of its key
-pub key_fails : (operator region : List ℕ) (read : Head) (bad : HttpFault) → ReadsHead region (Ok read)
-    → LeadsToCaller operator read.route read.key (Err bad) → Plans operator region (Err bad)
-key_fails operator region read bad parsed leads code_of input rest starts = (
+-- the region is a good head with these parts
+abbrev pub IsReadAs : List ℕ → Head → Type 0
+IsReadAs region kept = (read : RequestHead) × IsGoodHead region read kept.length × HasParts read kept
+
+-- its route is that of the parts
+routed_as : (read : RequestHead) (kept : Head) (found : Option (Route × List ℕ)) → HasParts read kept
+    → routed kept.method.now kept.target.now ≡ found → routed read.method read.target ≡ found
+routed_as read kept found parts e =
+    let P : List ℕ → Type 0 = λ method. routed method read.target ≡ found in
+    let Q : List ℕ → Type 0 = λ target. routed kept.method.now target ≡ found in
+    subst P parts.method (subst Q parts.target e)
+
+-- the fault of its route is that of each input that starts with it
+pub route_fails : (operator region : List ℕ) (kept : Head) (bad : HeadFault) → IsReadAs region kept
+    → GivesRoute kept.method.now kept.target.now (Err bad) → Plans operator region (Err (of_head bad))
+route_fails operator region kept head.BadHead parsed gives code_of input rest starts = absurd gives
+route_fails operator region kept head.NoSuchRoute parsed gives code_of input rest starts = (
   Ok (region, rest),
   starts,
   (
-    Ok (parsed.0, parsed.1),
-    parsed.2,
+    Ok (parsed.0, kept.length),
+    parsed.1,
     (
-      Ok (read.route, read.parameter.now),
-      parsed.3.route,
+      Err fault.NoSuchRoute,
+      routed_as parsed.0 kept None parsed.2 gives,
+      refl,
+    ),
+  ),
+)
+route_fails operator region kept head.OutOfMemory parsed gives code_of input rest starts =
+    (Err fault.OutOfMemory, tt, refl)
+
+-- so is the fault of its key
+pub key_fails : (operator region : List ℕ) (kept : Head) (found : Route × Bor (List ℕ)) (bad : HttpFault)
+    → IsReadAs region kept → GivesRoute kept.method.now kept.target.now (Ok found)
+    → LeadsToCaller operator found.0 kept.key (Err bad) → Plans operator region (Err bad)
+key_fails operator region kept found bad parsed gives leads code_of input rest starts = (
+  Ok (region, rest),
+  starts,
+  (
+    Ok (parsed.0, kept.length),
+    parsed.1,
+    (
+      Ok (found.0, found.1.now),
+      routed_as parsed.0 kept (Some (found.0, found.1.now)) parsed.2 gives,
       (
         Err bad,
-        (read.key, parsed.3.key, sym (leads code_of)),
+        (kept.key, parsed.2.key, sym (leads code_of)),
         refl,
       ),
     ),
   ),
 )
 
-led : (operator : List ℕ) (read : Head) (known : Caller) (code_of : CodeOf)
-    → LeadsToCaller operator read.route read.key (Ok known) → caller_under operator code_of read.route read.key
+led : (operator : List ℕ) (route : Route) (key : Option (List ℕ)) (known : Caller) (code_of : CodeOf)
+    → LeadsToCaller operator route key (Ok known) → caller_under operator code_of route key
     ≡ admitted_by code_of known
-led operator read (admitted.Operator route) code_of leads = leads code_of
-led operator read (admitted.Bank route digest) code_of leads = leads.3 code_of
+led operator route key (admitted.Operator served) code_of leads = leads code_of
+led operator route key (admitted.Bank served digest) code_of leads = leads.3 code_of
 
 abbrev behind : Bool → Option ℕ → List ℕ → List ℕ → Caller → Answer → Type 0
 behind posts length parameter rest caller =
@@ -72,26 +104,28 @@ same_behind posts other length declared parameter rest parsed answer p l goes =
     subst Q l (subst P p goes)
 
 -- what is asked under a plan is asked by each input that starts with its region
-pub planned : (operator region : List ℕ) (read : Head) (plan : Plan) → ReadsHead region (Ok read)
-    → LeadsToCaller operator read.route read.key (Ok plan.caller)
-    → plan.parameter.now ≡ read.parameter.now → plan.posts ≡ read.posts → plan.length ≡ read.length
+pub planned : (operator region : List ℕ) (kept : Head) (found : Route × Bor (List ℕ)) (plan : Plan)
+    → IsReadAs region kept → GivesRoute kept.method.now kept.target.now (Ok found)
+    → LeadsToCaller operator found.0 kept.key (Ok plan.caller)
+    → plan.parameter.now ≡ found.1.now → plan.posts ≡ is_post kept.method.now → plan.length ≡ kept.length
     → Plans operator region (Ok plan)
-planned operator region read plan parsed leads parameter posts length code_of input rest answer starts after =
+planned operator region kept found plan parsed gives leads parameter posts size code_of input rest answer starts after =
     let P : List ℕ → Type 0 = λ p. Goes (behind plan.posts plan.length p rest) answer after.0 in
+    let same : is_post kept.method.now ≡ is_post parsed.0.method = ap (λ m. is_post m) parsed.2.method in
     let goes =
-    same_behind plan.posts (is_post parsed.0.method) plan.length parsed.1 read.parameter.now rest after.0 answer
-    (posts ∙ parsed.3.posts) (length ∙ parsed.3.length) (subst P parameter after.2) in (
+    same_behind plan.posts (is_post parsed.0.method) plan.length kept.length found.1.now rest after.0 answer
+    (posts ∙ same) size (subst P parameter after.2) in (
       Ok (region, rest),
       starts,
       (
-        Ok (parsed.0, parsed.1),
-        parsed.2,
+        Ok (parsed.0, kept.length),
+        parsed.1,
         (
-          Ok (read.route, read.parameter.now),
-          parsed.3.route,
+          Ok (found.0, found.1.now),
+          routed_as parsed.0 kept (Some (found.0, found.1.now)) parsed.2 gives,
           (
             after.0,
-            (read.key, parsed.3.key, after.1 ∙ sym (led operator read plan.caller code_of leads)),
+            (kept.key, parsed.2.key, after.1 ∙ sym (led operator found.0 kept.key plan.caller code_of leads)),
             goes,
           ),
         ),
@@ -99,21 +133,22 @@ planned operator region read plan parsed leads parameter posts length code_of in
     )
 
 -- where a key leaves its bearer to be looked up, each input that starts with the region does
-pub looked_up : (operator region : List ℕ) (read : Head) (known : Caller) → ReadsHead region (Ok read)
-    → LeadsToCaller operator read.route read.key (Ok known) → MayLookUp operator region known
-looked_up operator region read (admitted.Operator route) parsed leads = tt
-looked_up operator region read (admitted.Bank route digest) parsed leads = λ input rest starts. record {
+pub looked_up : (operator region : List ℕ) (kept : Head) (found : Route × Bor (List ℕ)) (known : Caller)
+    → IsReadAs region kept → GivesRoute kept.method.now kept.target.now (Ok found)
+    → LeadsToCaller operator found.0 kept.key (Ok known) → MayLookUp operator region known
+looked_up operator region kept found (admitted.Operator served) parsed gives leads = tt
+looked_up operator region kept found (admitted.Bank served digest) parsed gives leads = λ input rest starts. record {
   region = region;
   rest = rest;
   head = parsed.0;
-  declared = parsed.1;
-  route = route;
-  parameter = read.parameter.now;
+  declared = kept.length;
+  route = served;
+  parameter = found.1.now;
   digest = digest;
   starts = starts;
-  good = parsed.2;
-  found = subst (λ (r : Route). routed parsed.0.method parsed.0.target ≡ Some (r, read.parameter.now)) leads.0
-      parsed.3.route;
-  key = subst (λ (k : Option (List ℕ)). HasKey (fields_of parsed.0) k) leads.1 parsed.3.key;
+  good = parsed.1;
+  found = subst (λ (r : Route). routed parsed.0.method parsed.0.target ≡ Some (r, found.1.now)) leads.0
+      (routed_as parsed.0 kept (Some (found.0, found.1.now)) parsed.2 gives);
+  key = subst (λ (k : Option (List ℕ)). HasKey (fields_of parsed.0) k) leads.1 parsed.2.key;
   other = leads.2;
 }

@@ -2,7 +2,6 @@
 
 mod bank_route;
 mod fields;
-mod good_head;
 mod head;
 mod head_fault;
 pub mod laws;

@@ -11,8 +11,11 @@ use std::alloc::Global;
 #[derive(Clone, Copy, Debug)]
 pub struct Plan<'a> {
     pub caller: Admitted<KeyDigest>,
+    /// What the route's parameter took of the target. It is empty where the route has none.
     pub parameter: &'a str,
+    /// Whether the method is POST.
     pub posts: bool,
+    /// The declared length of the body.
     pub length: Option<u32>,
 }
 
@@ -29,18 +32,22 @@ impl<'a> Plan<'a> {
         ensures plans { Plans operator.now region.now result }
         ensures looks_up { IfOk result (λ plan. MayLookUp operator.now region.now plan.caller) }
     {
-        let head = match Head::read(alloc, region) {
-            Ok(head) => head,
+        let Some(head) = Head::read(region) else {
+            return Err(HttpFault::BadHead);
+        };
+        let posts = head.posts();
+        let found = match head.route(alloc) {
+            Ok(found) => found,
             Err(fault) => return Err(HttpFault::from(fault)),
         };
-        let caller = match Admitted::of_key(head.route, head.key, operator) {
+        let caller = match Admitted::of_key(found.0, head.key, operator) {
             Ok(caller) => caller,
             Err(fault) => return Err(fault),
         };
         Ok(Plan {
             caller,
-            parameter: head.parameter,
-            posts: head.posts,
+            parameter: found.1,
+            posts,
             length: head.length,
         })
     }
