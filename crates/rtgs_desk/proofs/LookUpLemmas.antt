@@ -14,33 +14,29 @@ use Rattle.rtgs_keeper.specs.Calls.{OnlyReads}
 use Rattle.rtgs_keeper.specs.declared.keeper.Keeper.{Ghosts}
 use Rattle.rtgs_statements.specs.Reads.{LeavesRead}
 use Rattle.rtgs_desk.specs.Holding.{Holds, IsLeft, KeepsAsBefore}
+use Rattle.rtgs_desk.specs.Leaving.{StandStill}
 use Rattle.rtgs_desk.specs.LookUps.{LooksUp, refusal_of}
 use Rattle.rtgs_desk.specs.Seen.{Seen}
 use Rattle.rtgs_desk.proofs.HoldingLemmas.{in_memory, holding, works_held, keeps_held, calm_held}
-
-pub record KeeperLaws {K : Type 0} (g : Ghosts K) : Type 0 where
-  pub settled : (k : K) (book other : Book) → g.content k book → g.leaves k other → other ≡ book
-  pub whole : (k : K) (book : Book) → g.content k book → g.is_whole k
-  pub unmoved : (k : K) → g.leaves_no_more k k
 
 -- what a keeper ensures of a look-up with this result
 pub record Looks {K : Type 0} (g : Ghosts K) (X : Type 0) (old new : K) (result : Result X Fault) : Type 0 where
   pub reads : OnlyReads g.content g.leaves g.is_honest g.is_whole g.leaves_no_more g.has_failed old new result
   pub kinds : (result ≢ Err faults.NotADeskFile) × ((rule : Rule) → result ≢ Err (faults.Inconsistent rule))
 
-untouched : {K : Type 0} (g : Ghosts K) → KeeperLaws g → (keeper : K) → KeepsAsBefore g keeper keeper
-untouched g laws keeper = record {
+untouched : {K : Type 0} (g : Ghosts K) → StandStill g → (keeper : K) → KeepsAsBefore g keeper keeper
+untouched g still keeper = record {
   kept = λ book kept. kept;
   stops = λ book left. left;
-  untouched = laws.unmoved keeper;
+  untouched = (still keeper).unmoved;
 }
 
 -- a desk that has failed looks nothing up
-pub failed_before : {K : Type 0} (g : Ghosts K) → KeeperLaws g → (keeper : K) (core : Core) (desk : Seen K) (failed :
+pub failed_before : {K : Type 0} (g : Ghosts K) → StandStill g → (keeper : K) (core : Core) (desk : Seen K) (failed :
     Bool)
     → record { keeper = keeper; core = core } ≡ desk → failed ≡ g.has_failed keeper → failed ≡ true
     → LooksUp g desk desk (Some Failed)
-failed_before {K} g laws keeper core desk failed view says fails =
+failed_before {K} g still keeper core desk failed view says fails =
     let gone : g.has_failed desk.keeper ≡ true = ap (λ (s : Seen K). g.has_failed s.keeper) (sym view) ∙ sym says ∙
     fails in
     record {
@@ -48,17 +44,17 @@ failed_before {K} g laws keeper core desk failed view says fails =
       honest = λ h. h;
       kept = λ honest book held no. held;
       left = λ honest book held. absurd (let works = works_held g desk book held in cc);
-      keeper = λ honest no. untouched g laws desk.keeper;
+      keeper = λ honest no. untouched g still desk.keeper;
       fault = λ e. absurd (cc);
       only_fault = λ no. refl;
       failed = λ e. (refl, refl);
       kinds = λ e. absurd (cc);
     }
 
-pub looks_at_nothing : {K : Type 0} (g : Ghosts K) → KeeperLaws g → (keeper : K) (core : Core) (desk : Seen K)
+pub looks_at_nothing : {K : Type 0} (g : Ghosts K) → StandStill g → (keeper : K) (core : Core) (desk : Seen K)
     (failed : Bool) → record { keeper = keeper; core = core } ≡ desk → failed ≡ g.has_failed keeper → failed ≡ false
     → LooksUp g desk desk None
-looks_at_nothing {K} g laws keeper core desk failed view says working =
+looks_at_nothing {K} g still keeper core desk failed view says working =
     let works : g.has_failed desk.keeper ≡ false = ap (λ (s : Seen K). g.has_failed s.keeper) (sym view) ∙ sym says
     ∙ working in
     record {
@@ -66,10 +62,10 @@ looks_at_nothing {K} g laws keeper core desk failed view says working =
       honest = λ h. h;
       kept = λ honest book held no. held;
       left = λ honest book held. record {
-        after_a_crash = λ found left. laws.settled desk.keeper book found (keeps_held g desk book held) left;
-        whole_after_a_crash = laws.whole desk.keeper book (keeps_held g desk book held);
+        after_a_crash = λ found left. (still desk.keeper).settled book found (keeps_held g desk book held) left;
+        whole_after_a_crash = (still desk.keeper).whole book (keeps_held g desk book held);
       };
-      keeper = λ honest no. untouched g laws desk.keeper;
+      keeper = λ honest no. untouched g still desk.keeper;
       fault = λ e. absurd (cc);
       only_fault = λ no. refl;
       failed = λ e. absurd (cc);
@@ -77,20 +73,20 @@ looks_at_nothing {K} g laws keeper core desk failed view says working =
     }
 
 -- the keeper did not fail in the look-up
-looked : {K : Type 0} (g : Ghosts K) → KeeperLaws g → (X : Type 0) (old new : Seen K) (result : Result X Fault)
+looked : {K : Type 0} (g : Ghosts K) → StandStill g → (X : Type 0) (old new : Seen K) (result : Result X Fault)
     (ended : Option Refusal) → Looks g X old.keeper new.keeper result → new.core ≡ old.core
     → g.has_failed old.keeper ≡ false → result ≢ Err faults.StoreFault → (ended ≡ None) ⊎ (ended ≡ Some OutOfMemory)
     → LooksUp g old new ended
-looked g laws X old new result ended looks core works quiet ends = record {
+looked g still X old new result ended looks core works quiet ends = record {
   core = core;
   honest = looks.reads.honest;
   kept = λ honest book held no. holding g new book (looks.reads.only_fault quiet ∙ works)
       (looks.reads.same honest book (keeps_held g old book held) quiet)
       (subst (IsCoreOf book) (sym core) (in_memory g old book held)) (calm_held g old book held);
   left = λ honest book held. record {
-    after_a_crash = λ found left. laws.settled old.keeper book found (keeps_held g old book held)
+    after_a_crash = λ found left. (still old.keeper).settled book found (keeps_held g old book held)
         (looks.reads.stops honest found left);
-    whole_after_a_crash = looks.reads.whole honest (laws.whole old.keeper book (keeps_held g old book held));
+    whole_after_a_crash = looks.reads.whole honest ((still old.keeper).whole book (keeps_held g old book held));
   };
   keeper = λ honest no. record {
     kept = λ book kept. looks.reads.same honest book kept quiet;
@@ -106,7 +102,7 @@ looked g laws X old new result ended looks core works quiet ends = record {
       ends;
 }
 
-module _ {K : Type 0} (g : Ghosts K) (laws : KeeperLaws g) {X : Type 0} (keeper new : K) (core : Core) (old : Seen K)
+module _ {K : Type 0} (g : Ghosts K) (still : StandStill g) {X : Type 0} (keeper new : K) (core : Core) (old : Seen K)
     (failed : Bool) (result : Result X Fault) (view : record { keeper = keeper; core = core } ≡ old)
     (says : failed ≡ g.has_failed keeper) (working : failed ≡ false) (looks : Looks g X keeper new result) where
   abbrev before : Seen K
@@ -121,7 +117,7 @@ module _ {K : Type 0} (g : Ghosts K) (laws : KeeperLaws g) {X : Type 0} (keeper 
   -- it gave what was asked for
   pub looked_up : (x : X) → result ≡ Ok x → LooksUp g old (record { keeper = new; core = core }) None
   looked_up x e = seen None
-      (looked g laws X before after result None looks refl (sym says ∙ working) (λ f. cc) (inl refl))
+      (looked g still X before after result None looks refl (sym says ∙ working) (λ f. cc) (inl refl))
 
   failing : result ≡ Err faults.StoreFault → LooksUp g before after (Some StoreFault)
   failing e = record {
@@ -129,9 +125,9 @@ module _ {K : Type 0} (g : Ghosts K) (laws : KeeperLaws g) {X : Type 0} (keeper 
     honest = looks.reads.honest;
     kept = λ honest book held no. absurd (no refl);
     left = λ honest book held. record {
-      after_a_crash = λ found left. laws.settled keeper book found (keeps_held g before book held)
+      after_a_crash = λ found left. (still keeper).settled book found (keeps_held g before book held)
           (looks.reads.stops honest found left);
-      whole_after_a_crash = looks.reads.whole honest (laws.whole keeper book (keeps_held g before book held));
+      whole_after_a_crash = looks.reads.whole honest ((still keeper).whole book (keeps_held g before book held));
     };
     keeper = λ honest no. absurd (no refl);
     fault = λ f. (sym says ∙ working, looks.reads.fault e);
@@ -143,7 +139,7 @@ module _ {K : Type 0} (g : Ghosts K) (laws : KeeperLaws g) {X : Type 0} (keeper 
   pub not_looked_up : (met : Fault) → result ≡ Err met
       → LooksUp g old (record { keeper = new; core = core }) (Some (refusal_of met))
   not_looked_up faults.OutOfMemory e = seen (Some OutOfMemory)
-      (looked g laws X before after result (Some OutOfMemory) looks refl (sym says ∙ working) (λ f. cc) (inr refl))
+      (looked g still X before after result (Some OutOfMemory) looks refl (sym says ∙ working) (λ f. cc) (inr refl))
   not_looked_up faults.StoreFault e = seen (Some StoreFault) (failing e)
   not_looked_up faults.NotADeskFile e = absurd (looks.kinds.0 e)
   not_looked_up (faults.Inconsistent rule) e = absurd (looks.kinds.1 rule e)

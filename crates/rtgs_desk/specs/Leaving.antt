@@ -1,17 +1,20 @@
 -- What a crash leaves of a desk that holds a book: the law of what texts are read from.
-use Rattle.std.specs.Prelude.{◌≡◌}
 use Rattle.rtgs_book.specs.declared.book.Book.{Book}
+use Rattle.rtgs_keeper.specs.Still.{StandsStill}
 use Rattle.rtgs_keeper.specs.declared.keeper.Keeper.{Ghosts}
 use Rattle.rtgs_desk.specs.Holding.{Holds, IsLeft}
 use Rattle.rtgs_desk.specs.Seen.{Seen}
 
--- that book and no other, by the laws of its keeper
-pub left : {K : Type 0} (g : Ghosts K)
-    → ((k : K) (book other : Book) → g.content k book → g.leaves k other → other ≡ book)
-    → ((k : K) (book : Book) → g.content k book → g.is_whole k)
-    → (desk : Seen K) (book : Book) → Holds g desk book → IsLeft g desk book
+-- each keeper stands still between its calls
+abbrev pub StandStill : {K : Type 0} → Ghosts K → Type 0
+StandStill {K} g =
+    (k : K) → StandsStill (g.content k) (g.leaves k) (g.has_tables k) (g.is_whole k) (g.leaves_no_more k k)
+
+-- that book and no other, by the law of its keeper
+pub left : {K : Type 0} (g : Ghosts K) → StandStill g → (desk : Seen K) (book : Book) → Holds g desk book
+    → IsLeft g desk book
 unfolding Holds
-left g settled whole desk book held = record {
-  after_a_crash = λ found leaves. settled desk.keeper book found held.kept leaves;
-  whole_after_a_crash = whole desk.keeper book held.kept;
+left g still desk book held = record {
+  after_a_crash = λ found leaves. (still desk.keeper).settled book found held.kept leaves;
+  whole_after_a_crash = (still desk.keeper).whole book held.kept;
 }

@@ -8,6 +8,7 @@ ghost use Rattle.rtgs_book.specs.declared.fault.Fault.{Fault};
 ghost use Rattle.rtgs_book.specs.declared.rule.Rule.{Rule};
 ghost use Rattle.rtgs_book.specs.Changes.{IsChange};
 ghost use Rattle.rtgs_keeper.specs.Calls.{OnlyReads, TellsCommitFaults};
+ghost use Rattle.rtgs_keeper.specs.Still.{StandsStill};
 
 use crate::commit_fault::CommitFault;
 use rtgs_book::{Change, Core, Fault, Mark, Order, Posting};
@@ -114,17 +115,6 @@ pub trait Keeper {
             → leaves self.new other → leaves self.old other }
         ensures faults { TellsCommitFaults has_failed self.old self.new result };
 
-    // A stop now leaves the content, and no other book.
-    ghost settled: { (k : Self) (book other : Book) → content k book → leaves k other → other ≡ book };
-
-    ghost stays: { (k : Self) (book : Book) → content k book → leaves k book };
-
-    // What holds a book has its tables.
-    ghost tabled: { (k : Self) (book : Book) → content k book → has_tables k };
-
-    // What holds a book leaves one.
-    ghost whole: { (k : Self) (book : Book) → content k book → is_whole k };
-
-    // Where nothing is done, a crash leaves what it could leave before.
-    ghost unmoved: { (k : Self) → leaves_no_more k k };
+    // What is so between its calls.
+    ghost still: { (k : Self) → StandsStill (content k) (leaves k) (has_tables k) (is_whole k) (leaves_no_more k k) };
 }

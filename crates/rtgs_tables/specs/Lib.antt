@@ -1,3 +1,4 @@
+pub mod Between
 pub mod Building
 pub mod Faults
 pub mod Loading

@@ -129,7 +129,7 @@ impl<S: Alter + Drop> SqlKeeper<S> {
 
 impl<S: Alter + Drop> Keeper for SqlKeeper<S> {
     ghost use Rattle.rtgs_rows.specs.Keeping.{HoldsBook, MayLeave, IsWhole};
-    ghost use Rattle.rtgs_rows.specs.Settling as settling;
+    ghost use Rattle.rtgs_tables.specs.Between.{between};
     ghost use Rattle.rtgs_rows.specs.Querying.{HasTables};
     ghost use Rattle.rtgs_tables.specs.Building.{IsBlank};
     ghost use Rattle.rtgs_tables.specs.Loading.{ExplainsLoad, ShowsBalanced, MayLeaveNoMore};
@@ -154,7 +154,7 @@ impl<S: Alter + Drop> Keeper for SqlKeeper<S> {
 
     ghost is_honest = { λ k. HasCleanDisk (state S.Store k.conn) };
 
-    ghost settled = { λ k. settling.settled (record {
+    ghost still = { λ k. let it = between (record {
       view = S.Store.view;
       faults = S.Store.faults;
       recovers = S.Store.recovers;
@@ -162,39 +162,13 @@ impl<S: Alter + Drop> Keeper for SqlKeeper<S> {
       is_step = S.Store.is_step;
       blamed = S.Store.blamed;
       names = S.Store.names;
-    }) k.conn k.tells (S.Store.settled k.conn.store) };
-
-    ghost stays = { λ k. settling.stays (record {
-      view = S.Store.view;
-      faults = S.Store.faults;
-      recovers = S.Store.recovers;
-      is_shielded = S.Store.is_shielded;
-      is_step = S.Store.is_step;
-      blamed = S.Store.blamed;
-      names = S.Store.names;
-    }) k.conn (S.Store.stays k.conn.store) };
-
-    ghost tabled = { λ k. settling.tabled (record {
-      view = S.Store.view;
-      faults = S.Store.faults;
-      recovers = S.Store.recovers;
-      is_shielded = S.Store.is_shielded;
-      is_step = S.Store.is_step;
-      blamed = S.Store.blamed;
-      names = S.Store.names;
-    }) k.conn k.tables_are_whole };
-
-    ghost whole = { λ k. settling.whole (record {
-      view = S.Store.view;
-      faults = S.Store.faults;
-      recovers = S.Store.recovers;
-      is_shielded = S.Store.is_shielded;
-      is_step = S.Store.is_step;
-      blamed = S.Store.blamed;
-      names = S.Store.names;
-    }) k.conn (S.Store.settled k.conn.store) };
-
-    ghost unmoved = { λ _ _ left. left };
+    }) k.conn k.tells k.tables_are_whole (S.Store.settled k.conn.store) (S.Store.stays k.conn.store) in record {
+      settled = it.0;
+      stays = it.1;
+      tabled = it.2;
+      whole = it.3;
+      unmoved = λ _ left. left;
+    } };
 
     fn core(&mut self, alloc: Global) -> Result<Core, Fault> {
         let book = self.load(alloc)?;

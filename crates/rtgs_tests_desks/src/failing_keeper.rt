@@ -1,5 +1,6 @@
 //! A keeper that fails when a test wants it.
 ghost use Rattle.std.specs.Prelude.{◌≡◌, ◌⊎◌};
+ghost use Rattle.rtgs_book.specs.declared.book.Book.{Book};
 
 use crate::in_memory::MemoryKeeper;
 use rtgs_book::{Change, Core, Fault, Mark, Order, Posting};
@@ -102,15 +103,13 @@ impl<K: Keeper> Keeper for FailingKeeper<K> {
 
     ghost explains = { λ keeper fault. (fault ≡ Fault.StoreFault) ⊎ K.explains keeper.kept fault };
 
-    ghost settled = { λ keeper. K.settled keeper.kept };
-
-    ghost stays = { λ keeper. K.stays keeper.kept };
-
-    ghost tabled = { λ keeper. K.tabled keeper.kept };
-
-    ghost whole = { λ keeper. K.whole keeper.kept };
-
-    ghost unmoved = { λ _. tt };
+    ghost still = { λ keeper. let it = K.still keeper.kept in record {
+      settled = it.settled;
+      stays = it.stays;
+      tabled = it.tabled;
+      whole = it.whole;
+      unmoved = tt;
+    } };
 
     fn core(&mut self, alloc: Global) -> Result<Core, Fault> {
         if self.failed {
@@ -210,6 +209,7 @@ impl<K: Keeper> Keeper for FailingKeeper<K> {
     }
 
     fn commit(&mut self, change: &Change) -> Result<(), CommitFault> {
+        what_holds_a_book_is_whole(&self.kept);
         if self.failed {
             return Err(CommitFault::Failed);
         }
@@ -230,6 +230,13 @@ impl<K: Keeper> Keeper for FailingKeeper<K> {
             _ => kept,
         }
     }
+}
+
+// What holds a book leaves one. The function does nothing: its contract is the law.
+fn what_holds_a_book_is_whole<K: Keeper>(keeper: &K)
+    ensures { (book : Book) → K.content keeper.now book → K.is_whole keeper.now }
+{
+    let _ = keeper;
 }
 
 /// A keeper in memory of a new book, which meets this trouble after so many calls.

@@ -30,7 +30,7 @@ impl<K: Keeper> Source for Desk<K> {
       shows = K.Keeper.shows;
       leaves_no_more = K.Keeper.leaves_no_more;
       explains = K.Keeper.explains;
-    }) K.settled K.whole desk };
+    }) K.still desk };
 
     fn next_posting(
         &mut self,

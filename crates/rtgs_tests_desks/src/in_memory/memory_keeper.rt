@@ -187,15 +187,13 @@ impl Keeper for MemoryKeeper {
 
     ghost is_honest = { λ k. Unit {0} };
 
-    ghost settled = { λ k book other kept left. sym left.0 ∙ kept.0 };
-
-    ghost stays = { λ k book kept. kept };
-
-    ghost tabled = { λ k book kept. tt };
-
-    ghost whole = { λ k book kept. (book, kept) };
-
-    ghost unmoved = { λ k book kept. kept };
+    ghost still = { λ k. record {
+      settled = λ book other kept left. sym left.0 ∙ kept.0;
+      stays = λ book kept. kept;
+      tabled = λ book kept. tt;
+      whole = λ book kept. (book, kept);
+      unmoved = λ book kept. kept;
+    } };
 
     fn core(&mut self, alloc: Global) -> Result<Core, Fault> {
         let book = self.load(alloc)?;

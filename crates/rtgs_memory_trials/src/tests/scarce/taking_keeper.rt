@@ -42,15 +42,7 @@ impl<K: Keeper> Keeper for TakingKeeper<'_, K> {
 
     ghost explains = { λ keeper. K.explains keeper.kept };
 
-    ghost settled = { λ keeper. K.settled keeper.kept };
-
-    ghost stays = { λ keeper. K.stays keeper.kept };
-
-    ghost tabled = { λ keeper. K.tabled keeper.kept };
-
-    ghost whole = { λ keeper. K.whole keeper.kept };
-
-    ghost unmoved = { λ keeper. K.unmoved keeper.kept };
+    ghost still = { λ keeper. K.still keeper.kept };
 
     fn core(&mut self, alloc: Global) -> Result<Core, Fault> {
         self.kept.core(alloc)

@@ -6,22 +6,12 @@ use Rattle.rtgs_desk.proofs.LookUpLemmas.{failed_before, looked_up, not_looked_u
 use Rattle.rtgs_desk.proofs.desk.Desk.find_posting.Goals as goal
 
 pub returns-then-self-clause-looked : goal.returns-then-self-clause-looked
-returns-then-self-clause-looked g c = failed_before g.K.Keeper
-    (record {
-      settled = g.met.K.Keeper.settled;
-      whole = g.met.K.Keeper.whole;
-      unmoved = g.met.K.Keeper.unmoved;
-    })
+returns-then-self-clause-looked g c = failed_before g.K.Keeper g.met.K.Keeper.still
     c.self.inside.keeper c.self.inside.ledger.core
     c.args.self.now c.self.inside.failed c.self.view_is c.self.invariant c.if-self.true
 
 pub returns-in-Ok-clause-looked : goal.returns-in-Ok-clause-looked
-returns-in-Ok-clause-looked g c = looked_up g.K.Keeper
-    (record {
-      settled = g.met.K.Keeper.settled;
-      whole = g.met.K.Keeper.whole;
-      unmoved = g.met.K.Keeper.unmoved;
-    })
+returns-in-Ok-clause-looked g c = looked_up g.K.Keeper g.met.K.Keeper.still
     c.self.inside.keeper c.find_posting.new.self c.self.inside.ledger.core c.args.self.now c.self.inside.failed
     c.find_posting.result
     c.self.view_is c.self.invariant c.if-self.false
@@ -37,11 +27,7 @@ returns-in-Err-clause-looked g c = subst
     (λ (r : Refusal). LooksUp g.K.Keeper c.args.self.now
     (record { keeper = c.find_posting.new.self; core = c.self.inside.ledger.core }) (Some r)) (sym
     c.refused.ensures.refusal)
-    (not_looked_up g.K.Keeper (record {
-      settled = g.met.K.Keeper.settled;
-      whole = g.met.K.Keeper.whole;
-      unmoved = g.met.K.Keeper.unmoved;
-    })
+    (not_looked_up g.K.Keeper g.met.K.Keeper.still
     c.self.inside.keeper c.find_posting.new.self c.self.inside.ledger.core c.args.self.now c.self.inside.failed
     c.find_posting.result
     c.self.view_is c.self.invariant c.if-self.false

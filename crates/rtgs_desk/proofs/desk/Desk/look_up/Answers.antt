@@ -50,12 +50,7 @@ found_nothing book (command.CutOff date) post order withdraw = refl
 found_nothing book (command.CloseDay date) post order withdraw = refl
 
 pub returns-then-self-clause-looked : goal.returns-then-self-clause-looked
-returns-then-self-clause-looked g c = failed_before g.K.Keeper
-    (record {
-      settled = g.met.K.Keeper.settled;
-      whole = g.met.K.Keeper.whole;
-      unmoved = g.met.K.Keeper.unmoved;
-    })
+returns-then-self-clause-looked g c = failed_before g.K.Keeper g.met.K.Keeper.still
     c.self.inside.keeper c.self.inside.ledger.core
     c.args.self.now c.self.inside.failed c.self.view_is c.self.invariant c.if-self.true
 
@@ -71,11 +66,7 @@ returns-clause-looked g c = elim c.match-command.branch [
       (λ (s : Seen g.row.K.Denot). LooksUp g.K.Keeper c.args.self.now s None) (sym w.self-is)
       w.in_ok-found-in-Post.ensures.looked
   | in_default w ↦ subst (λ (s : Seen g.row.K.Denot). LooksUp g.K.Keeper c.args.self.now s None) (sym w.self-is)
-      (looks_at_nothing g.K.Keeper (record {
-        settled = g.met.K.Keeper.settled;
-        whole = g.met.K.Keeper.whole;
-        unmoved = g.met.K.Keeper.unmoved;
-      })
+      (looks_at_nothing g.K.Keeper g.met.K.Keeper.still
       c.self.inside.keeper c.self.inside.ledger.core c.args.self.now c.self.inside.failed c.self.view_is
       c.self.invariant
       c.if-self.false)

@@ -6,23 +6,13 @@ use Rattle.rtgs_desk.proofs.LookUpLemmas.{failed_before, looked_up, not_looked_u
 use Rattle.rtgs_desk.proofs.desk.source.DeskSource.next_mark.Goals as goal
 
 pub returns-then-self-clause-read : goal.returns-then-self-clause-read
-returns-then-self-clause-read g c = reads g.K.Keeper _ _ _ (failed_before g.K.Keeper
-    (record {
-      settled = g.met.K.Keeper.settled;
-      whole = g.met.K.Keeper.whole;
-      unmoved = g.met.K.Keeper.unmoved;
-    })
+returns-then-self-clause-read g c = reads g.K.Keeper _ _ _ (failed_before g.K.Keeper g.met.K.Keeper.still
     c.self.inside.keeper
     c.self.inside.ledger.core
     c.args.self.now c.self.inside.failed c.self.view_is c.self.invariant c.if-self.true)
 
 pub returns-in-Ok-clause-read : goal.returns-in-Ok-clause-read
-returns-in-Ok-clause-read g c = reads g.K.Keeper _ _ _ (looked_up g.K.Keeper
-    (record {
-      settled = g.met.K.Keeper.settled;
-      whole = g.met.K.Keeper.whole;
-      unmoved = g.met.K.Keeper.unmoved;
-    })
+returns-in-Ok-clause-read g c = reads g.K.Keeper _ _ _ (looked_up g.K.Keeper g.met.K.Keeper.still
     c.self.inside.keeper c.next_mark.new.self c.self.inside.ledger.core c.args.self.now c.self.inside.failed
     c.next_mark.result
     c.self.view_is c.self.invariant c.if-self.false
@@ -38,11 +28,7 @@ returns-in-Err-clause-read g c = reads g.K.Keeper _ _ _ (subst
     (λ (r : Refusal). LooksUp g.K.Keeper c.args.self.now
     (record { keeper = c.next_mark.new.self; core = c.self.inside.ledger.core }) (Some r)) (sym
     c.refused.ensures.refusal)
-    (not_looked_up g.K.Keeper (record {
-      settled = g.met.K.Keeper.settled;
-      whole = g.met.K.Keeper.whole;
-      unmoved = g.met.K.Keeper.unmoved;
-    })
+    (not_looked_up g.K.Keeper g.met.K.Keeper.still
     c.self.inside.keeper c.next_mark.new.self c.self.inside.ledger.core c.args.self.now c.self.inside.failed
     c.next_mark.result
     c.self.view_is c.self.invariant c.if-self.false
