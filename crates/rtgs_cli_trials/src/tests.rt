@@ -19,6 +19,7 @@ mod paper;
 mod readings;
 mod refusals;
 mod runs;
+mod scenarios;
 mod script;
 mod serving;
 mod stops;

@@ -1,7 +1,9 @@
-//! Ledgers, tables, look-ups, desks, files of orders and whole days, over keepers in memory and in a file.
+//! Ledgers, tables, look-ups, desks, files of orders and whole days, over keepers in memory and in a file; and the
+//! resolver alone.
 mod batches;
 mod days;
 mod desk;
+mod gridlock;
 mod ledger;
 mod look_ups;
 mod order_files;

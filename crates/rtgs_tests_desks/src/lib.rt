@@ -1,5 +1,5 @@
-//! What the tests of desks share: the keeper in memory, keepers that fail or count, and scripts, which say in words
-//! what a desk is given and what it answers. Only crates of trials stand on this crate.
+//! What the tests of desks share: the keeper in memory, keepers that fail or count, scripts, which say in words what a
+//! desk is given and what it answers, and scenarios of gridlocks. Only crates of trials stand on this crate.
 #![tactic(auto)]
 
 mod batch_orders;
@@ -8,6 +8,7 @@ mod failing_keeper;
 mod in_memory;
 mod opened;
 mod readings;
+mod scenarios;
 mod scripts;
 mod silence;
 
@@ -17,6 +18,10 @@ pub use crate::failing_keeper::{FailingKeeper, Trouble, failing};
 pub use crate::in_memory::MemoryKeeper;
 pub use crate::opened::{BANKS, begun, desk_over};
 pub use crate::readings::seen_of;
+pub use crate::scenarios::{
+    BANK_COUNT, GRIDLOCKS, Layer, ScenarioAccount, ScenarioOrder, bank_index, cents_of, plays,
+    queue_json, references_of,
+};
 pub use crate::scripts::{
     Reply, answered, command, commands, follows, is_expected, is_expected_by_itself, reply_text,
 };

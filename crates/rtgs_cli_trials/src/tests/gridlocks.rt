@@ -1,7 +1,22 @@
 //! Orders that wait for each other, on the command line.
 use super::days::OPEN_DAY;
+use super::scenarios::script_of;
 use super::script::follows_both;
+use rtgs_tests_desks::GRIDLOCKS;
 use std::test::Fail;
+
+#[test]
+fn runs_do_what_each_scenario_says(rt: HostRuntime) -> Result<(), Fail> {
+    let mut count = 0usize;
+    for scenario in GRIDLOCKS {
+        let script = script_of(rt.alloc(), scenario)?;
+        let book = format!(in rt.alloc(); "scenario_{count}")?;
+        follows_both(&rt, book.as_str(), OPEN_DAY, script.as_str())?;
+        count = count.saturating_add(1);
+    }
+    assert_eq!(rt; count, 8);
+    Ok(())
+}
 
 const DEADLOCK: &str = "
 $ orders deadlock.csv A-1,BETA,100
@@ -44,42 +59,6 @@ $ desk import @ ALFA deadlock.csv
 #[test]
 fn a_deadlock_stays_until_the_close(rt: HostRuntime) -> Result<(), Fail> {
     follows_both(&rt, "deadlock", OPEN_DAY, DEADLOCK)
-}
-
-const PARTIAL: &str = "
-$ orders partial.csv A-1,BETA,100 A-2,GAMA,50
-$ desk import @ ALFA partial.csv
-> reference,result,number,detail
-> A-1,queued,1,1
-> A-2,queued,2,2
-$ orders partial.csv B-1,ALFA,100
-$ desk import @ BETA partial.csv
-> reference,result,number,detail
-> B-1,queued,3,1
-$ desk resolve @
-> resolved mark 1 count 2 value 200
-";
-
-#[test]
-fn the_newest_order_without_cover_waits(rt: HostRuntime) -> Result<(), Fail> {
-    follows_both(&rt, "partial", OPEN_DAY, PARTIAL)
-}
-
-const QUEUED: &str = "
-$ desk post @ ALFA P-1 100
-> posted 1
-$ orders queue.csv A-1,BETA,150 A-2,BETA,20
-$ desk import @ ALFA queue.csv
-> reference,result,number,detail
-> A-1,queued,1,1
-> A-2,queued,2,2
-$ desk resolve @
-> nothing
-";
-
-#[test]
-fn no_order_passes_its_senders_queue(rt: HostRuntime) -> Result<(), Fail> {
-    follows_both(&rt, "queue", OPEN_DAY, QUEUED)
 }
 
 const READ: &str = "

@@ -24,6 +24,7 @@ mod ports;
 mod queues;
 mod readers;
 mod refusals;
+mod scenarios;
 mod slow_peers;
 mod steps;
 mod stores;

@@ -3,10 +3,11 @@ mod follow_up;
 
 use super::scripts::command;
 use super::scripts::ledgers::{funded_ledger_follows, new_ledger, new_ledger_follows};
+use super::scripts::scenarios::script_of;
 use super::setting::change;
 use rtgs_book::{Answer, Day, Fault, Found, NewOrder, Phase, Refusal, RowChange};
 use rtgs_keeper::Keeper;
-use rtgs_tests_desks::MemoryKeeper;
+use rtgs_tests_desks::{GRIDLOCKS, MemoryKeeper};
 use std::alloc::Global;
 use std::test::Fail;
 
@@ -85,20 +86,15 @@ kept ALFA A-2 => 2 ALFA A-2 BETA 1 2024-03-04 Queued
 }
 
 #[test]
-fn a_ring_is_resolved(rt: HostRuntime) -> Result<(), Fail> {
-    funded_ledger_follows(
-        &rt,
-        "
-order ALFA A-1 BETA 200 => Queued { number: 1, place: 1 }
-order BETA B-1 GAMA 200 => Queued { number: 2, place: 1 }
-order GAMA G-1 ALFA 200 => Queued { number: 3, place: 1 }
-resolve => Resolved { mark: 1, count: 3, value: Cents(600) }
-resolve => Nothing
-kept GAMA G-1 => 3 GAMA G-1 ALFA 200 2024-03-04 Settled(1)
-queue GAMA => empty
-balance ALFA => 100 cents
-",
-    )
+fn a_ledger_does_what_each_scenario_says(rt: HostRuntime) -> Result<(), Fail> {
+    let mut count = 0usize;
+    for scenario in GRIDLOCKS {
+        let script = script_of(rt.alloc(), scenario)?;
+        new_ledger_follows(&rt, script.as_str())?;
+        count = count.saturating_add(1);
+    }
+    assert_eq!(rt; count, 8);
+    Ok(())
 }
 
 #[test]

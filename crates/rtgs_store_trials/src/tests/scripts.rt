@@ -4,6 +4,7 @@ pub mod desks;
 pub mod ledgers;
 pub mod records;
 pub mod rows;
+pub mod scenarios;
 
 use super::setting::{Reply, code, reference};
 use rtgs_book::{Command, NewDay, NewOrder, Resolution, WholeAnswer};

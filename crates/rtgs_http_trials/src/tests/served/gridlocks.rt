@@ -1,6 +1,20 @@
-//! A gridlock of which a part settles, request by request, and the texts of its day.
+//! Orders that wait for each other, request by request; and the texts of a day with a gridlock of which a part settles.
 use super::super::test_desk::{follows, follows_after};
+use super::scenarios::script_of;
+use rtgs_tests_desks::GRIDLOCKS;
 use std::test::Fail;
+
+#[test]
+fn a_served_desk_does_what_each_scenario_says(rt: HostRuntime) -> Result<(), Fail> {
+    let mut count = 0usize;
+    for scenario in GRIDLOCKS {
+        let script = script_of(rt.alloc(), scenario)?;
+        follows(rt.alloc(), script.as_str())?;
+        count = count.saturating_add(1);
+    }
+    assert_eq!(rt; count, 8);
+    Ok(())
+}
 
 const ORDERS: &str = r#"
 OPERATOR POST /desk/post {"cents":10,"code":"ALFA","reference":"P-1"}

@@ -31,32 +31,6 @@ fn a_deadlock_is_rejected_at_the_close(rt: HostRuntime) -> Result<(), Fail> {
     follows(rt.alloc(), DEADLOCK)
 }
 
-const PARTIAL: &str = r#"
-ALFA POST /orders {"amount":100,"reference":"A-1","to":"BETA"}
--> 200 OK {"answer":"queued","number":1,"place":1}
-
-ALFA POST /orders {"amount":50,"reference":"A-2","to":"GAMA"}
--> 200 OK {"answer":"queued","number":2,"place":2}
-
-ALFA GET /queue
--> 200 OK {"orders":[{"amount":100,"number":1,"place":1,"reference":"A-1","to":"BETA"},{"amount":50,"number":2,
-"place":2,"reference":"A-2","to":"GAMA"}]}
-
-BETA POST /orders {"amount":100,"reference":"B-1","to":"ALFA"}
--> 200 OK {"answer":"queued","number":3,"place":1}
-
-OPERATOR POST /desk/resolve {}
--> 200 OK {"answer":"resolved","count":2,"mark":1,"value":200}
-
-ALFA GET /account
--> 200 OK {"balance":0,"code":"ALFA","credit":0,"date":"2024-03-04","name":"Alfa Bank","phase":"OPEN","queued":1,
-"queued_value":50}
-
-GAMA GET /account
--> 200 OK {"balance":0,"code":"GAMA","credit":0,"date":"2024-03-04","name":"Gama Bank","phase":"OPEN","queued":0,
-"queued_value":0}
-"#;
-
 // The second order would be covered, and waits for the first until that is withdrawn.
 const NO_BYPASS: &str = r#"
 OPERATOR POST /desk/post {"cents":100,"code":"ALFA","reference":"P-1"}
@@ -80,11 +54,6 @@ ALFA GET /queue
 OPERATOR POST /desk/resolve {}
 -> 200 OK {"answer":"resolved","count":1,"mark":1,"value":20}
 "#;
-
-#[test]
-fn the_newest_order_waits_on(rt: HostRuntime) -> Result<(), Fail> {
-    follows(rt.alloc(), PARTIAL)
-}
 
 #[test]
 fn no_order_passes_another(rt: HostRuntime) -> Result<(), Fail> {

@@ -10,24 +10,6 @@ use std::process::Abort;
 use std::test::Fail;
 
 #[test]
-fn no_order_passes_its_senders_queue(rt: HostRuntime) -> Result<(), Fail> {
-    desk_follows(
-        &rt,
-        "
-open 2024-03-04 => Opened
-post ALFA P-1 100 => Posted { number: 1 }
-order ALFA A-1 BETA 150 => Queued { number: 1, place: 1 }
-order ALFA A-2 BETA 20 => Queued { number: 2, place: 2 }
-resolve => Nothing
-order BETA B-1 ALFA 1 => Queued { number: 3, place: 1 }
-account ALFA => 100 cents, 2 queued
-account BETA => 0 cents, 1 queued
-account GAMA => 0 cents, 0 queued
-",
-    )
-}
-
-#[test]
 fn an_order_settles_once(rt: HostRuntime) -> Result<(), Fail> {
     desk_follows(
         &rt,

@@ -1,10 +1,11 @@
 //! Scripts for a desk.
-use super::super::setting::{code, desk_over};
-use super::records::{mark_if_any, order_if_any, posting_if_any};
+use super::super::setting::{code, desk_over, reference};
+use super::records::{mark_if_any, order_if_any, posting_if_any, queue_text};
 use super::{Answers, command_of, day_of, follows, reply_text, words_of};
 use rtgs_book::AccountReading;
 use rtgs_desk::Desk;
 use rtgs_keeper::Keeper;
+use rtgs_money::BusinessDate;
 use rtgs_statements::Source;
 use rtgs_tests_desks::MemoryKeeper;
 use std::alloc::Global;
@@ -23,6 +24,8 @@ impl<K: Keeper> Answers for Desk<K> {
         match words.as_slice() {
             ["account", participant] => account_text(alloc, self, participant),
             ["accounts"] => accounts_text(alloc, self),
+            ["queue", sender] => queue_of(alloc, self, sender),
+            ["kept", sender, name] => kept_order(alloc, self, sender, name),
             ["day"] => day_text(alloc, self),
             ["next-posting", day, after] => next_posting_text(alloc, self, day, after),
             ["next-order", day, after] => next_order_text(alloc, self, day, after),
@@ -63,6 +66,27 @@ fn account_text<K: Keeper>(
         }
         Err(refusal) => Ok(format!(in alloc; "refused: {refusal:?}")?),
     }
+}
+
+/// The orders that wait in the sender's queue.
+fn queue_of<K: Keeper>(alloc: Global, desk: &Desk<K>, sender: &str) -> Result<String, Fail> {
+    // Names the type of due dates for the borrow checker, which finds it nowhere else in this function.
+    let _no_date: Option<BusinessDate> = None;
+    let queue = desk.queue_of(&code(sender)?)?;
+    queue_text(alloc, queue.as_slice())
+}
+
+/// The sender's order of this reference, as it is kept.
+fn kept_order<K: Keeper>(
+    alloc: Global,
+    desk: &mut Desk<K>,
+    sender: &str,
+    name: &str,
+) -> Result<String, Fail> {
+    // Names the type of due dates for the borrow checker, which finds it nowhere else in this function.
+    let _no_date: Option<BusinessDate> = None;
+    let order = desk.order_of(&code(sender)?, &reference(name)?)?;
+    order_if_any(alloc, &Some(order))
 }
 
 /// All accounts, in their order. Each is answered as the account of its code is.

@@ -23,6 +23,7 @@ impl Answers for Kept {
         let words = words_of(alloc, asked)?;
         match words.as_slice() {
             ["balance", participant] => balance_text(alloc, &self.ledger, participant),
+            ["account", participant] => account_text(alloc, &self.ledger, participant),
             ["queue", sender] => queue_of(alloc, &self.ledger, sender),
             ["kept", sender, name] => kept_order(alloc, &mut self.keeper, sender, name),
             ["in-memory"] => numbers_in_memory(alloc, &self.ledger),
@@ -173,6 +174,16 @@ fn balance_text(alloc: Global, ledger: &Ledger, participant: &str) -> Result<Str
         }
         None => Ok(format!(in alloc; "no participant")?),
     }
+}
+
+/// What a participant has, and how many orders its queue has.
+fn account_text(alloc: Global, ledger: &Ledger, participant: &str) -> Result<String, Fail> {
+    // Names the type of due dates for the borrow checker, which finds it nowhere else in this function.
+    let _no_date: Option<BusinessDate> = None;
+    let balance = balance_text(alloc, ledger, participant)?;
+    let queue = ledger.queue(&code(participant)?)?;
+    let queued = queue.as_slice().len();
+    Ok(format!(in alloc; "{balance}, {queued} queued")?)
 }
 
 /// The orders that wait in the sender's queue.
