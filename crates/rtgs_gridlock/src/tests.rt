@@ -1,5 +1,6 @@
-//! The greatest choice of small books that are worked out by hand, and of generated books beside
-//! the published procedure written plainly.
+//! The greatest choice of books that no desk has, which are worked out by hand, and of generated
+//! books beside the published procedure written plainly. What it is of small books that desks have
+//! is told by scenarios, which `rtgs_store_trials` runs.
 mod books;
 mod plain;
 
@@ -70,77 +71,6 @@ fn no_participants(rt: HostRuntime) -> Result<(), Fail> {
     assert!(rt; book.positions.is_empty());
     assert!(rt; book.queues.is_empty());
     assert!(rt; lengths(&rt, rt.alloc(), &book)?.is_empty());
-    Ok(())
-}
-
-#[test]
-fn one_removal_leads_to_the_next(rt: HostRuntime) -> Result<(), Fail> {
-    let rows = [
-        (0, 0, [].as_slice()),
-        (0, 0, [(0, 50)].as_slice()),
-        (0, 0, [(1, 50)].as_slice()),
-    ];
-    let found = lengths(&rt, rt.alloc(), &book(rt.alloc(), &rows)?)?;
-    assert_eq!(rt; found.as_slice(), [0, 0, 0].as_slice());
-    Ok(())
-}
-
-#[test]
-fn floor_below_zero(rt: HostRuntime) -> Result<(), Fail> {
-    let rows = [
-        (0, -30, [(1, 20), (1, 20), (1, 20)].as_slice()),
-        (0, 0, [].as_slice()),
-    ];
-    let found = lengths(&rt, rt.alloc(), &book(rt.alloc(), &rows)?)?;
-    assert_eq!(rt; found.as_slice(), [1, 0].as_slice());
-    Ok(())
-}
-
-#[test]
-fn ring_settles_whole(rt: HostRuntime) -> Result<(), Fail> {
-    let rows = [
-        (0, 0, [(1, 100)].as_slice()),
-        (0, 0, [(2, 100)].as_slice()),
-        (0, 0, [(0, 100)].as_slice()),
-    ];
-    let found = lengths(&rt, rt.alloc(), &book(rt.alloc(), &rows)?)?;
-    assert_eq!(rt; found.as_slice(), [1, 1, 1].as_slice());
-    Ok(())
-}
-
-#[test]
-fn deadlock_settles_nothing(rt: HostRuntime) -> Result<(), Fail> {
-    let rows = [
-        (0, 0, [(1, 100)].as_slice()),
-        (0, 0, [(2, 90)].as_slice()),
-        (0, 0, [].as_slice()),
-    ];
-    let found = lengths(&rt, rt.alloc(), &book(rt.alloc(), &rows)?)?;
-    assert_eq!(rt; found.as_slice(), [0, 0, 0].as_slice());
-    Ok(())
-}
-
-#[test]
-fn part_of_a_queue_settles(rt: HostRuntime) -> Result<(), Fail> {
-    let rows = [
-        (0, 0, [(1, 100), (2, 50)].as_slice()),
-        (0, 0, [(0, 100)].as_slice()),
-        (0, 0, [].as_slice()),
-    ];
-    let found = lengths(&rt, rt.alloc(), &book(rt.alloc(), &rows)?)?;
-    assert_eq!(rt; found.as_slice(), [1, 1, 0].as_slice());
-    Ok(())
-}
-
-#[test]
-fn cascade_stops_where_all_have_cover(rt: HostRuntime) -> Result<(), Fail> {
-    let rows = [
-        (10, 0, [(1, 60), (2, 10)].as_slice()),
-        (0, 0, [(0, 50), (2, 20)].as_slice()),
-        (0, 0, [(0, 5)].as_slice()),
-    ];
-    let found = lengths(&rt, rt.alloc(), &book(rt.alloc(), &rows)?)?;
-    assert_eq!(rt; found.as_slice(), [1, 1, 0].as_slice());
     Ok(())
 }
 
