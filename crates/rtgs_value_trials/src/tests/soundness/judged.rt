@@ -1,6 +1,6 @@
 //! The rules that books break, by number, a book a line.
-use super::books::book_of;
-use super::script::{ensure, lines_of, sides};
+use super::super::books::book_of;
+use super::super::script::{ensure, lines_of, sides};
 use rtgs_book::Fault;
 use rtgs_soundness::check;
 use std::alloc::Global;

@@ -1,6 +1,6 @@
 //! Books with orders for later days, and the rule that each breaks.
+use super::super::script::{ensure, is, lines_of, sides};
 use super::judged::{BANKS, are_judged, judged};
-use super::script::{ensure, is, lines_of, sides};
 use std::alloc::Global;
 use std::fmt::Write;
 use std::test::Fail;
