@@ -10,6 +10,7 @@ from lib import desks
 ROOT = "//! A crate.\nmod low;\nmod own;\n\npub use crate::low::{laws, twice};\npub use crate::own::once;\n"
 LOW = "//! A part.\nmod deep;\nmod hidden;\npub mod laws;\n\npub use crate::low::deep::twice;\n"
 FUNCTION = "/// Does it.\npub fn {}()\n    ensures {{ 1 ≡ 1 }}\n{{}}\n"
+TRAIT = "/// One.\npub trait One {\n    /// Does it.\n    final fn done()\n        ensures { 1 ≡ 1 }\n    {}\n}\n"
 
 
 class Contracts(unittest.TestCase):
@@ -30,9 +31,17 @@ class Contracts(unittest.TestCase):
         with open(f"{self.top}/{name}", "w", encoding="utf-8") as it:
             it.write(text)
 
-    def test_what_is_passed_on_has_the_name_that_other_crates_call(self):
+    def heads(self):
+        """Returns the names that the list has, in their order."""
         ran = subprocess.run([f"{self.top}/bin/contracts"], capture_output=True, text=True, check=False)
         self.assertEqual((ran.returncode, ran.stderr), (0, ""))
         with open(f"{self.top}/docs/CONTRACTS.md", encoding="utf-8") as it:
-            heads = [line.strip("# `\n") for line in it if line.startswith("### ")]
-        self.assertEqual(sorted(heads), ["it::laws::law", "it::low::hidden::hidden", "it::once", "it::twice"])
+            return sorted(line.strip("# `\n") for line in it if line.startswith("### "))
+
+    def test_what_is_passed_on_has_the_name_that_other_crates_call(self):
+        self.assertEqual(self.heads(), ["it::laws::law", "it::low::hidden::hidden", "it::once", "it::twice"])
+
+    def test_a_function_that_no_implementation_overrides_is_listed(self):
+        self.write("crates/it/src/lib.rt", ROOT.replace("own::once", "own::{One, once}"))
+        self.write("crates/it/src/own.rt", FUNCTION.format("once") + TRAIT)
+        self.assertIn("it::One::done", self.heads())
