@@ -1,7 +1,6 @@
 -- What an answer says of a book's file: to looking at it, to reading its beginning, to taking its lock, and to opening
 -- the store.
-use Rattle.std.specs.Prelude.{◌≡◌, ◌==◌, ◌++◌, ◌∷◌, [], ℕ, ◌≤◌, ⊤, Bool, true, List, Option, None, Some, Result}
-use Rattle.std.specs.Prelude.{Ok, Err, codes}
+use Rattle.std.specs.Prelude.{◌==◌, ◌++◌, ◌∷◌, [], ℕ, ◌≤◌, ⊤, Bool, true, List, Result, Ok, Err, codes}
 use Rattle.std.specs.Prelude.{if◌then◌else◌}
 use Rattle.std.specs.Fs.{metadata_len}
 use Rattle.std.specs.IoError.{error_kind}
@@ -65,16 +64,6 @@ fault_of_lock _ = InUse
 abbrev pub fault_of_trying : TryLockError → FileFault
 fault_of_trying try.WouldBlock = InUse
 fault_of_trying (try.Error error) = fault_of_lock (error_kind error)
-
--- the name of a lock's own file, which stands beside the book's
-abbrev pub lock_name : List ℕ → List ℕ
-lock_name path = path ++ codes ".lock"
-
--- It is refused with this fault, and it is the file at this path, by the name of its lock; or memory was wanting for
--- that name. `bytes_of` gives the bytes of a name.
-abbrev pub IsOfLock : {N : Type 0} → (N → List ℕ) → List ℕ → Option N → FileFault → Type 0
-IsOfLock bytes_of path (Some name) fault = bytes_of name ≡ lock_name path
-IsOfLock bytes_of path None fault = fault ≡ Book OutOfMemory
 
 -- what an error of the store's opening says of a file
 abbrev pub fault_of_store : SqlError → Fault

@@ -1,8 +1,10 @@
 pub mod Causes
 pub mod Closed
 pub mod Counting
+pub mod FileOnDisk
 pub mod Files
 pub mod Lending
+pub mod LockName
 pub mod Opened
 pub mod OverFile
 pub mod Refused

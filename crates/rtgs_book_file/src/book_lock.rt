@@ -1,7 +1,7 @@
 //! The lock of a book's file.
 ghost use Rattle.std.specs.Prelude.{◌≡◌, string_bytes, IfOk, IfErr};
 ghost use Rattle.sqlite.specs.WalFiles.{image_at};
-ghost use Rattle.rtgs_book_file.specs.Files.{lock_name, IsOfLock};
+ghost use Rattle.rtgs_book_file.specs.LockName.{lock_name, IsOfLock};
 ghost use Rattle.rtgs_book_file.specs.Refused.{IsNotLocked, IsUnopened, IsUnmadeIn};
 ghost use Rattle.rtgs_book_file.specs.Causes.{IsOfItsLock, fault_of_cause};
 

@@ -10,7 +10,7 @@ use rtgs_keeper::Keeper;
 use sqlite::Start;
 
 /// A book with which nothing more is done, and the desk over it as it was left. Only an open book makes one, and as it
-/// cannot be dropped, it ends by `close` alone.
+/// cannot be dropped, it ends by `close` alone, or by that of a `BookFile`.
 pub struct FinishedBook<K: Keeper> {
     desk: Desk<K>,
     lock: HeldLock,
@@ -23,6 +23,15 @@ impl<K: Keeper> FinishedBook<K> {
         ensures held { result.lock ≡ lock }
     {
         FinishedBook { desk, lock }
+    }
+
+    /// The keeper under the desk, and the lock.
+    pub(crate) fn into_parts(self) -> (K, HeldLock)
+        ensures keeper { result.0 ≡ self.desk.keeper }
+        ensures held { result.1 ≡ self.lock }
+    {
+        let FinishedBook { desk, lock } = self;
+        (desk.into_keeper(), lock)
     }
 }
 

@@ -7,7 +7,7 @@ use std::snapshot::Snapshot;
 
 /// The lock of a book's file whose store is opened. It cannot be dropped: it ends by `release` alone, which takes files
 /// that are gone. So the lock is held until then.
-pub(crate) struct HeldLock {
+pub struct HeldLock {
     locked: Locked,
 }
 

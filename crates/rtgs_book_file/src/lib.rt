@@ -2,11 +2,13 @@
 #![tactic(auto)]
 
 mod abandoned_book;
+mod book_file;
 mod book_lock;
 mod cause;
 mod closed_book;
 mod closed_files;
 mod file_fault;
+mod file_on_disk;
 mod files_gone;
 mod finished_book;
 mod held_lock;
@@ -28,13 +30,14 @@ pub mod stored_desk;
 mod unopened;
 
 pub use crate::abandoned_book::AbandonedBook;
+pub use crate::book_file::BookFile;
 pub use crate::book_lock::BookLock;
 pub use crate::closed_book::ClosedBook;
 pub use crate::closed_files::ClosedFiles;
 pub use crate::file_fault::FileFault;
 pub use crate::finished_book::FinishedBook;
+pub use crate::held_lock::HeldLock;
 pub use crate::open_book::OpenBook;
 pub use crate::released::Released;
 pub use crate::store::FileKeeper;
 pub use crate::unopened::Unopened;
-pub use sqlite::Start;

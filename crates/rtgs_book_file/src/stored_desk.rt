@@ -7,7 +7,7 @@ mod migration;
 mod new_book;
 mod opening;
 
-pub use crate::stored_desk::commands::{run, submit};
+pub use crate::stored_desk::commands::run;
 pub use crate::stored_desk::migration::migrate;
 pub use crate::stored_desk::new_book::make;
 pub use crate::stored_desk::opening::{create, open};

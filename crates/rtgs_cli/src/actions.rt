@@ -1,10 +1,10 @@
 //! Which run does what a request asks for.
 ghost use Rattle.std.specs.Prelude.{IfOk, IfErr};
-ghost use Rattle.rtgs_book_file.specs.OverFile.{file_from};
+ghost use Rattle.rtgs_book_file.specs.OverFile.{over};
 ghost use Rattle.rtgs_cli_files.specs.Touching.{IsOf};
 ghost use Rattle.rtgs_cli.specs.Runs.{file_of, Denies, PrintsFor};
 
-use rtgs_book_file::{FileKeeper, Start};
+use rtgs_book_file::BookFile;
 use rtgs_cli_arguments::Request;
 use rtgs_cli_commands::{answer, make_book, migrate_book};
 use rtgs_cli_files::{Acted, Used};
@@ -21,19 +21,18 @@ pub type RunUsed = Used<Snapshot<OrderFile>, Snapshot<Port>, Snapshot<NoPort>>;
 
 /// Does what was asked for, and prints what came of it. Where it is refused, nothing is printed but the rows of a
 /// statement before the one that was not read.
-pub fn act<S: Start, O: Write>(
+pub fn act<B: BookFile, O: Write>(
     rt: &HostRuntime,
     request: &Request<'_>,
-    start: S,
+    start: B,
     out: &mut O,
-) -> Acted<S, RunUsed>
+) -> Acted<B, RunUsed>
     ensures printed { IfOk result.0 (λ printed. PrintsFor
-        (file_from ⟦<FileKeeper<S> as Keeper>⟧ S.Start (λ keeper. keeper.conn)) request.now result.1 printed
+        (over ⟦<B::Kept as Keeper>⟧ B.facts) request.now result.1 printed
         (O.contents out.old) (O.contents out.new)) }
-    ensures refused { IfErr result.0 (λ why. Denies (file_from ⟦<FileKeeper<S> as Keeper>⟧ S.Start
-        (λ keeper. keeper.conn)) O.contents request.now result.1 why out.old out.new) }
-    ensures at { IsOf (file_from ⟦<FileKeeper<S> as Keeper>⟧ S.Start (λ keeper. keeper.conn)) (file_of request.now)
-        result.1 }
+    ensures refused { IfErr result.0 (λ why. Denies
+        (over ⟦<B::Kept as Keeper>⟧ B.facts) O.contents request.now result.1 why out.old out.new) }
+    ensures at { IsOf (over ⟦<B::Kept as Keeper>⟧ B.facts) (file_of request.now) result.1 }
 {
     match *request {
         Request::Make { file } => make_book(rt, file, start, out),

@@ -1,6 +1,7 @@
 //! One run of the program.
 ghost use Rattle.std.specs.Prelude.{◌≡◌, ⊤, Result, IfOk, IfErr};
-ghost use Rattle.rtgs_book_file.specs.OverFile.{file_from};
+ghost use Rattle.rtgs_book_file.specs.FileOnDisk.{facts_from};
+ghost use Rattle.rtgs_book_file.specs.OverFile.{over};
 ghost use Rattle.clap.specs.Words.{kind_of};
 ghost use Rattle.rtgs_output.specs.declared.WriterFailed.{WriterFailed};
 ghost use Rattle.rtgs_cli_lines.specs.Failures.{failure_line as refusal_line};
@@ -11,7 +12,7 @@ ghost use Rattle.rtgs_cli.specs.Runs.{AreExplained, Ends, EndsAfter, IsDenied, I
 use crate::actions::{RunUsed, act};
 use clap::Error;
 use clap::error::ErrorKind;
-use rtgs_book_file::{FileKeeper, Start};
+use rtgs_book_file::{BookFile, FileKeeper};
 use rtgs_cli_arguments::{Asked, Request, Words, read_words};
 use rtgs_cli_files::{Acted, Touched, Traces};
 use rtgs_cli_lines::{Ended, Failure, Printed};
@@ -19,6 +20,7 @@ use rtgs_keeper::Keeper;
 use rtgs_output::send_all;
 use rtgs_refusal_texts::print_texts;
 use rtgs_refusals::RefusalKind;
+use sqlite::Start;
 use std::alloc::{AllocError, Global};
 use std::io::Write;
 
@@ -56,17 +58,17 @@ fn refused<E: Write>(failure: Failure, err: &mut E) -> Ended
 }
 
 /// Reads the words' forms, and does what they ask for.
-fn carry_out<S: Start, O: Write>(
+fn carry_out<B: BookFile, O: Write>(
     rt: &HostRuntime,
     words: &Words<'_>,
-    start: S,
+    start: B,
     out: &mut O,
-) -> Acted<S, RunUsed>
+) -> Acted<B, RunUsed>
     ensures printed { IfOk result.0 (λ printed. IsCarriedOut
-        (file_from ⟦<FileKeeper<S> as Keeper>⟧ S.Start (λ keeper. keeper.conn)) words.now result.1 printed
+        (over ⟦<B::Kept as Keeper>⟧ B.facts) words.now result.1 printed
         (O.contents out.old) (O.contents out.new)) }
-    ensures refused { IfErr result.0 (λ why. IsDenied (file_from ⟦<FileKeeper<S> as Keeper>⟧ S.Start
-        (λ keeper. keeper.conn)) O.contents words.now result.1 why out.old out.new) }
+    ensures refused { IfErr result.0 (λ why. IsDenied
+        (over ⟦<B::Kept as Keeper>⟧ B.facts) O.contents words.now result.1 why out.old out.new) }
 {
     match Request::read(words) {
         Ok(request) => act(rt, &request, start, out),
@@ -75,14 +77,14 @@ fn carry_out<S: Start, O: Write>(
 }
 
 /// Does what the words of a command line ask for that was read so, and tells how that ended, and what was touched.
-fn end<S: Start, O: Write, E: Write>(
+fn end<B: BookFile, O: Write, E: Write>(
     rt: &HostRuntime,
     read: Result<Option<Asked<'_>>, Error>,
-    start: S,
+    start: B,
     out: &mut O,
     err: &mut E,
-) -> (Ended, Traces<S, RunUsed>)
-    ensures { EndsAfter (file_from ⟦<FileKeeper<S> as Keeper>⟧ S.Start (λ keeper. keeper.conn))
+) -> (Ended, Traces<B, RunUsed>)
+    ensures { EndsAfter (over ⟦<B::Kept as Keeper>⟧ B.facts)
         read.entry O.contents E.contents result.0 result.1 out.old out.new err.old err.new }
 {
     match read {
@@ -104,10 +106,25 @@ fn end<S: Start, O: Write, E: Write>(
     }
 }
 
-/// One run of the program with the words after its name, over a book's file that held what `S` says. What was done and
-/// help are printed on `out`, refusals and faults of the command line on `err`, each line with its end. A statement is
-/// printed row by row, so that rows of it can stand on `out` where it is then refused. The result says what became of
-/// that, and has the exit status; and beside it stands what the run touched of the file.
+/// One run of the program with the words after its name, over the file of a book. What was done and help are printed on
+/// `out`, refusals and faults of the command line on `err`, each line with its end. A statement is printed row by row,
+/// so that rows of it can stand on `out` where it is then refused. The result says what became of that, and has the
+/// exit status; and beside it stands what the run touched of the file.
+fn run_over<B: BookFile, O: Write, E: Write>(
+    rt: &HostRuntime,
+    words: &[&str],
+    start: B,
+    out: &mut O,
+    err: &mut E,
+) -> (Ended, Traces<B, RunUsed>)
+    ensures { Ends (over ⟦<B::Kept as Keeper>⟧ B.facts)
+        O.contents E.contents result.0 result.1 out.old out.new err.old err.new }
+{
+    end(rt, read_words(rt.alloc(), words), start, out, err)
+}
+
+/// One run of the program with the words after its name, over a book's file on a disk that held what `S` says, as
+/// `run_over` does it over a file of any kind. Here alone contracts name the store again.
 pub fn run_words<S: Start, O: Write, E: Write>(
     rt: &HostRuntime,
     words: &[&str],
@@ -115,8 +132,8 @@ pub fn run_words<S: Start, O: Write, E: Write>(
     out: &mut O,
     err: &mut E,
 ) -> (Ended, Traces<S, RunUsed>)
-    ensures { Ends (file_from ⟦<FileKeeper<S> as Keeper>⟧ S.Start (λ keeper. keeper.conn))
-        O.contents E.contents result.0 result.1 out.old out.new err.old err.new }
+    ensures { Ends (over ⟦<FileKeeper<S> as Keeper>⟧ (facts_from ⟦<FileKeeper<S> as Keeper>⟧ S.Start
+        (λ keeper. keeper.conn))) O.contents E.contents result.0 result.1 out.old out.new err.old err.new }
 {
-    end(rt, read_words(rt.alloc(), words), start, out, err)
+    run_over(rt, words, start, out, err)
 }

@@ -12,19 +12,20 @@ use Rattle.rtgs_book_file.specs.OverFile.{OverFile}
 use Rattle.rtgs_cli_commands.specs.Commands.{IsSubmitted}
 
 module _ {K U C : Type 0} (file : OverFile K U C) {opened lent left finished : Seen K} (lends : lent ≡ opened)
-    (same : finished ≡ left) (over : file.keeper.is_honest opened.keeper → file.was_opened opened)
+    (same : finished ≡ left) (over : file.keeper.is_honest opened.keeper → file.facts.was_opened opened)
     (honest : file.keeper.is_honest left.keeper → file.keeper.is_honest lent.keeper) where
   -- a promise of each book that the desk held when it was lent
   abbrev Promises : (Book → Type 0) → Type 0
   Promises Does = file.keeper.is_honest left.keeper → (book : Book) → Holds file.keeper lent book → Does book
 
   pub submitted : (command : Command) (reply : Reply) → Promises (λ book. Acts file.keeper book command reply left)
-      → Promises (λ book. file.stop_leaves left book (command ∷ []) (reply ∷ []))
+      → Promises (λ book. file.facts.stop_leaves left book (command ∷ []) (reply ∷ []))
       → IsSubmitted file command reply finished
   submitted command reply acts leaves = subst (IsSubmitted file command reply) (sym same) (record {
     opened = lent;
     over = λ was_honest.
-        subst (λ desk. file.keeper.is_honest desk.keeper → file.was_opened desk) (sym lends) over (honest was_honest);
+        subst (λ desk. file.keeper.is_honest desk.keeper → file.facts.was_opened desk) (sym lends) over
+        (honest was_honest);
     did = λ was_honest book held. (acts was_honest book held, leaves was_honest book held);
   })
 

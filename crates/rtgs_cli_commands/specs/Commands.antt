@@ -30,20 +30,20 @@ module _ {K U C : Type 0} (file : OverFile K U C) where
   -- the desk gave the command this reply, and a stop leaves the book before it or the one that it leads to
   abbrev pub IsSubmitted : Command → Reply → Seen K → Type 0
   IsSubmitted command reply left = IsDone file left (λ book.
-      Acts file.keeper book command reply left × file.stop_leaves left book (command ∷ []) (reply ∷ []))
+      Acts file.keeper book command reply left × file.facts.stop_leaves left book (command ∷ []) (reply ∷ []))
 
 module _ {A K U C F P N : Type 0} (book_file : OverFile K U C) where
   -- what a run that makes a book has to print: the line that says so
   abbrev pub HasMade : Touched A U C (Used F P N) → List ℕ → Option Refusal → Type 0
   HasMade touched text stopped =
-      ((made : C) × (touched ≡ traces.Book made used.Nothing) × book_file.was_made made)
+      ((made : C) × (touched ≡ traces.Book made used.Nothing) × book_file.facts.was_made made)
       × (text ≡ ended_line (done_line Made)) × (stopped ≡ None)
 
   -- what a run that brings the tables of a book to the newest version has to print: whether it did, or they were of it
   abbrev pub HasMigrated : Touched A U C (Used F P N) → List ℕ → Option Refusal → Type 0
   HasMigrated touched text stopped =
       (wrote : Bool) × ((migrated : C) × (touched ≡ traces.Book migrated used.Nothing)
-      × book_file.was_migrated wrote migrated) × (text ≡ ended_line (done_line (done_by_migration wrote)))
+      × book_file.facts.was_migrated wrote migrated) × (text ≡ ended_line (done_line (done_by_migration wrote)))
       × (stopped ≡ None)
 
   -- what a run that gives a command has to print: the line of its answer, and a second of what was resolved after it

@@ -1,8 +1,10 @@
 //! Runs that give the desk one command, and print the line of what was done; and the runs that make a book, and that
 //! bring its tables to the newest version.
-ghost use Rattle.std.specs.Prelude.{◌≡◌, true, None, Ok, Err, IfOk, IfErr, OnErr, string_bytes};
-ghost use Rattle.rtgs_book_file.specs.Files.{lock_name};
-ghost use Rattle.rtgs_book_file.specs.OverFile.{file_from};
+ghost use Rattle.std.specs.Prelude.{◌≡◌, ◌∷◌, [], true, None, Ok, Err, IfOk, IfErr, OnErr, string_bytes};
+ghost use Rattle.rtgs_book.specs.declared.book.Book.{Book};
+ghost use Rattle.rtgs_book_file.specs.LockName.{lock_name};
+ghost use Rattle.rtgs_book_file.specs.OverFile.{over};
+ghost use Rattle.rtgs_desk.specs.Holding.{Acts, Holds};
 ghost use Rattle.rtgs_desk.specs.Replies.{IsOfItsKind};
 ghost use Rattle.rtgs_cli_commands.specs.Commands.{HasAnswered, HasMade, HasMigrated, IsNotAnswered, IsSubmitted};
 ghost use Rattle.rtgs_cli_commands.specs.Commands.{done_by_migration};
@@ -12,106 +14,122 @@ ghost use Rattle.rtgs_cli_lines.specs.Lines.{done_line};
 ghost use Rattle.rtgs_cli_lines.specs.Texts.{Prints};
 
 use rtgs_book::{Command, Refusal, WholeAnswer};
-use rtgs_book_file::{FileKeeper, Start};
-use rtgs_cli_files::{
-    Acted, Finished, Touched, Used, close_book, failure_of_unopened, make, migrate, open,
-};
+use rtgs_book_file::BookFile;
+use rtgs_cli_files::{Acted, Finished, Touched, Used, close_book, failure_of_refused};
 use rtgs_cli_lines::{Done, Failure, Printed};
+use rtgs_desk::Desk;
 use rtgs_keeper::Keeper;
 use std::io::Write;
 
 /// Makes a new book in a file, and says so.
-pub fn make_book<S: Start, O: Write, F, P, N>(
+pub fn make_book<B: BookFile, O: Write, F, P, N>(
     rt: &HostRuntime,
     file: &str,
-    start: S,
+    start: B,
     out: &mut O,
-) -> Acted<S, Used<F, P, N>>
+) -> Acted<B, Used<F, P, N>>
     ensures printed { IfOk result.0 (λ printed. PrintsText
-        (HasMade (file_from ⟦<FileKeeper<S> as Keeper>⟧ S.Start (λ keeper. keeper.conn)) result.1) printed
+        (HasMade (over ⟦<B::Kept as Keeper>⟧ B.facts) result.1) printed
         (O.contents out.old) (O.contents out.new)) }
-    ensures refused { IfErr result.0
-        (IsNoBookMade (file_from ⟦<FileKeeper<S> as Keeper>⟧ S.Start (λ keeper. keeper.conn)) result.1) }
+    ensures refused { IfErr result.0 (IsNoBookMade (over ⟦<B::Kept as Keeper>⟧ B.facts) result.1) }
     ensures unchanged { OnErr result.0 (out.new ≡ out.old) }
-    ensures at { IsOf (file_from ⟦<FileKeeper<S> as Keeper>⟧ S.Start (λ keeper. keeper.conn)) file.now result.1 }
+    ensures at { IsOf (over ⟦<B::Kept as Keeper>⟧ B.facts) file.now result.1 }
 {
-    match make(rt, file, start) {
+    match start.make(rt, file) {
         Ok(made) => (Ok(say(Done::Made, out)), Touched::Book(made, Used::Nothing)),
-        Err(unmade) => (Err(failure_of_unopened(&unmade)), Touched::Refused(unmade)),
+        Err(unmade) => (
+            Err(failure_of_refused::<B>(&unmade)),
+            Touched::Refused(unmade),
+        ),
     }
 }
 
 /// Brings the tables of the book in a file to the newest version, and says whether anything was written.
-pub fn migrate_book<S: Start, O: Write, F, P, N>(
+pub fn migrate_book<B: BookFile, O: Write, F, P, N>(
     rt: &HostRuntime,
     file: &str,
-    start: S,
+    start: B,
     out: &mut O,
-) -> Acted<S, Used<F, P, N>>
+) -> Acted<B, Used<F, P, N>>
     ensures printed { IfOk result.0 (λ printed. PrintsText
-        (HasMigrated (file_from ⟦<FileKeeper<S> as Keeper>⟧ S.Start (λ keeper. keeper.conn)) result.1) printed
+        (HasMigrated (over ⟦<B::Kept as Keeper>⟧ B.facts) result.1) printed
         (O.contents out.old) (O.contents out.new)) }
-    ensures refused { IfErr result.0
-        (IsNotMigrated (file_from ⟦<FileKeeper<S> as Keeper>⟧ S.Start (λ keeper. keeper.conn)) result.1) }
+    ensures refused { IfErr result.0 (IsNotMigrated (over ⟦<B::Kept as Keeper>⟧ B.facts) result.1) }
     ensures unchanged { OnErr result.0 (out.new ≡ out.old) }
-    ensures at { IsOf (file_from ⟦<FileKeeper<S> as Keeper>⟧ S.Start (λ keeper. keeper.conn)) file.now result.1 }
+    ensures at { IsOf (over ⟦<B::Kept as Keeper>⟧ B.facts) file.now result.1 }
 {
-    match migrate(rt, file, start) {
+    match start.migrate(rt, file) {
         Ok((migrated, wrote)) => (
             Ok(say(migration(wrote), out)),
             Touched::Book(migrated, Used::Nothing),
         ),
         Err(unmigrated) => (
-            Err(failure_of_unopened(&unmigrated)),
+            Err(failure_of_refused::<B>(&unmigrated)),
             Touched::Refused(unmigrated),
         ),
     }
 }
 
 /// Gives the desk over a file one command, and prints its answer.
-pub fn answer<S: Start, O: Write, F, P, N>(
+pub fn answer<B: BookFile, O: Write, F, P, N>(
     rt: &HostRuntime,
     file: &str,
     command: Command,
-    start: S,
+    start: B,
     out: &mut O,
-) -> Acted<S, Used<F, P, N>>
+) -> Acted<B, Used<F, P, N>>
     ensures printed { IfOk result.0 (λ printed. PrintsText
-        (HasAnswered (file_from ⟦<FileKeeper<S> as Keeper>⟧ S.Start (λ keeper. keeper.conn)) command result.1) printed
+        (HasAnswered (over ⟦<B::Kept as Keeper>⟧ B.facts) command result.1) printed
         (O.contents out.old) (O.contents out.new)) }
-    ensures refused { IfErr result.0
-        (IsNotAnswered (file_from ⟦<FileKeeper<S> as Keeper>⟧ S.Start (λ keeper. keeper.conn)) command result.1) }
+    ensures refused { IfErr result.0 (IsNotAnswered (over ⟦<B::Kept as Keeper>⟧ B.facts) command result.1) }
     ensures unchanged { OnErr result.0 (out.new ≡ out.old) }
-    ensures at { IsOf (file_from ⟦<FileKeeper<S> as Keeper>⟧ S.Start (λ keeper. keeper.conn)) file.now result.1 }
+    ensures at { IsOf (over ⟦<B::Kept as Keeper>⟧ B.facts) file.now result.1 }
 {
-    match close_book(submit(rt, file, command, start)) {
+    match close_book::<B, _>(submit(rt, file, command, start)) {
         Ok((closed, reply)) => (print(reply, out), Touched::Book(closed, Used::Nothing)),
         Err(unopened) => (
-            Err(failure_of_unopened(&unopened)),
+            Err(failure_of_refused::<B>(&unopened)),
             Touched::Refused(unopened),
         ),
     }
 }
 
 // Opens the book in a file, and gives its desk one command.
-fn submit<S: Start>(
+fn submit<B: BookFile>(
     rt: &HostRuntime,
     file: &str,
     command: Command,
-    start: S,
-) -> Finished<S, Result<WholeAnswer, Refusal>>
+    start: B,
+) -> Finished<B, Result<WholeAnswer, Refusal>>
     ensures replied { IfOk result (λ (book, reply). IsSubmitted
-        (file_from ⟦<FileKeeper<S> as Keeper>⟧ S.Start (λ keeper. keeper.conn)) command reply book.desk) }
+        (over ⟦<B::Kept as Keeper>⟧ B.facts) command reply book.desk) }
     ensures of_its_kind { IfOk result (λ (_, reply). IfOk reply (IsOfItsKind command)) }
-    ensures unopened { IfErr result (λ unopened.
-        (file_from ⟦<FileKeeper<S> as Keeper>⟧ S.Start (λ keeper. keeper.conn)).was_unopened unopened) }
+    ensures unopened { IfErr result (λ unopened. B.facts.was_unopened unopened) }
     ensures at { IfOk result (λ (book, _). string_bytes book.lock.locked.name ≡ lock_name file.now) }
-    ensures of { IfErr result (λ unopened.
-        (file_from ⟦<FileKeeper<S> as Keeper>⟧ S.Start (λ keeper. keeper.conn)).refused_at file.now unopened) }
+    ensures of { IfErr result (λ unopened. B.facts.refused_at file.now unopened) }
 {
-    let mut book = open(rt, file, start)?;
-    let reply = rtgs_book_file::stored_desk::submit(book.desk(), command);
+    let mut book = start.open(rt, file)?;
+    let reply = give_command::<B>(book.desk(), command);
     Ok((book.finish(), reply))
+}
+
+// Gives a desk over a file one command.
+fn give_command<B: BookFile>(
+    desk: &mut Desk<B::Kept>,
+    command: Command,
+) -> Result<WholeAnswer, Refusal>
+    ensures acts { ⟦<B::Kept as Keeper>⟧.is_honest desk.new.keeper → (book : Book)
+        → Holds ⟦<B::Kept as Keeper>⟧ desk.old book → Acts ⟦<B::Kept as Keeper>⟧ book command result desk.new }
+    ensures left { ⟦<B::Kept as Keeper>⟧.is_honest desk.new.keeper → (book : Book)
+        → Holds ⟦<B::Kept as Keeper>⟧ desk.old book
+        → B.facts.stop_leaves desk.new book (command ∷ []) (result ∷ []) }
+    ensures honest { ⟦<B::Kept as Keeper>⟧.is_honest desk.new.keeper
+        → ⟦<B::Kept as Keeper>⟧.is_honest desk.old.keeper }
+    ensures of_its_kind { IfOk result (IsOfItsKind command) }
+{
+    let reply = desk.submit(command);
+    B::what_a_session_leaves(desk);
+    reply
 }
 
 // Prints what the desk answered. Where it refused the command, nothing is printed.

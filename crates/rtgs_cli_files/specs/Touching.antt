@@ -32,27 +32,28 @@ module _ {A K U C M : Type 0} (book_file : OverFile K U C) where
   -- the file was refused in such a way, and what is reported is what refused it
   abbrev IsRefusedAs : (U → Type 0) → Touched A U C M → Failure → Type 0
   IsRefusedAs Was touched why = (refused : U) × (touched ≡ traces.Refused refused) × Was refused
-      × (why ≡ failure_of_file (book_file.fault_of refused))
+      × (why ≡ failure_of_file (book_file.facts.fault_of refused))
 
   -- no desk was opened over it
   abbrev pub IsNotOpened : Touched A U C M → Failure → Type 0
-  IsNotOpened = IsRefusedAs book_file.was_unopened
+  IsNotOpened = IsRefusedAs book_file.facts.was_unopened
 
   -- no book was made in it
   abbrev pub IsNoBookMade : Touched A U C M → Failure → Type 0
-  IsNoBookMade = IsRefusedAs book_file.was_unmade
+  IsNoBookMade = IsRefusedAs book_file.facts.was_unmade
 
   -- its tables were not brought to the newest version
   abbrev pub IsNotMigrated : Touched A U C M → Failure → Type 0
-  IsNotMigrated = IsRefusedAs book_file.was_unmigrated
+  IsNotMigrated = IsRefusedAs book_file.facts.was_unmigrated
 
   -- the desk was left so, and then the file was closed, which is this one; and beside it the run used this
   abbrev pub IsClosed : Seen K → M → Touched A U C M → Type 0
-  IsClosed left beside touched = (closed : C) × (touched ≡ traces.Book closed beside) × book_file.was_closed left closed
+  IsClosed left beside touched = (closed : C) × (touched ≡ traces.Book closed beside)
+      × book_file.facts.was_closed left.keeper closed
 
   -- what was touched is the file at this path
   abbrev pub IsOf : List ℕ → Touched A U C M → Type 0
-  IsOf path touched = IsFile (book_file.refused_at path) (book_file.closed_at path) touched
+  IsOf path touched = IsFile (book_file.facts.refused_at path) (book_file.facts.closed_at path) touched
 
   -- the file was not touched
   abbrev pub IsUntouched : Touched A U C M → Type 0

@@ -1,13 +1,11 @@
-//! The book's file, as a run uses it: the run opens it, makes a book in it, or brings its tables to the newest version;
-//! closes it, and says what it touched.
+//! What a run did with the book's file: how the book is closed, what the run touched and used, and how it is reported
+//! that the file was refused.
 #![tactic(auto)]
 
 mod files;
 mod touched;
 mod used;
 
-pub use crate::files::{
-    Acted, Closed, Finished, Traces, close_book, failure_of_unopened, make, migrate, open,
-};
+pub use crate::files::{Acted, Closed, Finished, Traces, close_book, failure_of_refused};
 pub use crate::touched::Touched;
 pub use crate::used::Used;

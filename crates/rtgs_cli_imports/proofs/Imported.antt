@@ -37,7 +37,7 @@ either_way first second (inl p) = inl (first p)
 either_way first second (inr q) = inr (second q)
 
 module _ {K U C : Type 0} (file : OverFile K U C) {opened lent left finished : Seen K} (lends : lent ≡ opened)
-    (same : finished ≡ left) (over : file.keeper.is_honest opened.keeper → file.was_opened opened)
+    (same : finished ≡ left) (over : file.keeper.is_honest opened.keeper → file.facts.was_opened opened)
     (honest : file.keeper.is_honest left.keeper → file.keeper.is_honest lent.keeper) {V W : Type 0} where
   pub was_sent : (sent : Result V W) (sender : List ℕ) (rows_of : V → List NewOrder) (replies_of : V → List RowReply)
       (stop_of : V → Option Refusal) → IfOk sent (λ it. file.keeper.is_honest left.keeper
@@ -47,7 +47,8 @@ module _ {K U C : Type 0} (file : OverFile K U C) {opened lent left finished : S
   was_sent (Ok it) sender rows_of replies_of stop_of did = subst
       (IsSent file sender (rows_of it) (replies_of it) (stop_of it)) (sym same) (record {
         opened = lent;
-        over = λ was_honest. subst (λ desk. file.keeper.is_honest desk.keeper → file.was_opened desk) (sym lends) over
+        over = λ was_honest.
+            subst (λ desk. file.keeper.is_honest desk.keeper → file.facts.was_opened desk) (sym lends) over
             (honest was_honest);
         did = did;
       })
@@ -62,7 +63,7 @@ module _ {K U C : Type 0} (file : OverFile K U C) {opened lent left finished : S
 module _ {K B U C E V W : Type 0} (file : OverFile K U C) (desk_of : B → Seen K)
     (finished : Result (B × (Result V W × Snapshot OrderFile)) E) (book : B) (done : Result V W)
     (read : Snapshot OrderFile) (is : finished ≡ Ok (book, (done, read))) (A P N : Type 0) (closed : C)
-    (shut : file.was_closed (desk_of book) closed) where
+    (shut : file.facts.was_closed (desk_of book).keeper closed) where
   -- what the run touched
   abbrev sent : Touched A U C (Used (Snapshot OrderFile) P N)
   sent = traces.Book closed (used.Orders read)

@@ -38,7 +38,7 @@ abbrev pub SentOver : {K U C : Type 0} → OverFile K U C → Book → List ℕ 
     → Seen K → Type 0
 SentOver file book sender rows replies stopped desk =
     (sent : Sent file.keeper book sender rows replies stopped desk)
-    × file.stop_leaves desk book (orders_of sender (take (length (with_stop sent.given stopped)) rows))
+    × file.facts.stop_leaves desk book (orders_of sender (take (length (with_stop sent.given stopped)) rows))
     (with_stop sent.given stopped)
 
 module _ {K U C : Type 0} (file : OverFile K U C) where

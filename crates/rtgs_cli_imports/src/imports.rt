@@ -1,7 +1,7 @@
 //! The run that submits a file of orders, from the file's bytes to the printed results.
 ghost use Rattle.std.specs.Prelude.{◌≡◌, ◌⊎◌, length, Ok, Err, IfOk, IfErr, OnErr, string_bytes};
-ghost use Rattle.rtgs_book_file.specs.Files.{lock_name};
-ghost use Rattle.rtgs_book_file.specs.OverFile.{file_from};
+ghost use Rattle.rtgs_book_file.specs.LockName.{lock_name};
+ghost use Rattle.rtgs_book_file.specs.OverFile.{over};
 ghost use Rattle.rtgs_book.specs.declared.book.Book.{Book};
 ghost use Rattle.rtgs_desk.specs.Holding.{Holds};
 ghost use Rattle.rtgs_desk.specs.batches.Batches.{StopsAfter};
@@ -17,9 +17,8 @@ ghost use Rattle.rtgs_cli_imports.specs.Imports.{HasSent, IsNotImported, IsSent,
 use crate::batches::{print_results, submit_orders};
 use crate::order_file::OrderFile;
 use rtgs_book::NewOrder;
-use rtgs_book_file::stored_desk::laws::what_a_session_leaves;
-use rtgs_book_file::{FileKeeper, Start};
-use rtgs_cli_files::{Acted, Finished, Touched, Used, close_book, failure_of_unopened, open};
+use rtgs_book_file::BookFile;
+use rtgs_cli_files::{Acted, Finished, Touched, Used, close_book, failure_of_refused};
 use rtgs_cli_lines::{Failure, Printed};
 use rtgs_desk::Desk;
 use rtgs_keeper::Keeper;
@@ -34,23 +33,22 @@ type Sent = Result<(Vec<NewOrder>, BatchResult), Failure>;
 
 /// Submits a participant's file of orders to the desk over a file, and prints the results. A batch that stopped ends
 /// the run as stopped. Where memory is wanting for the results, the orders stand, and nothing is printed.
-pub fn import<S: Start, O: Write, P, N>(
+pub fn import<B: BookFile, O: Write, P, N>(
     rt: &HostRuntime,
     file: &str,
     sender: Code,
     orders: &str,
-    start: S,
+    start: B,
     out: &mut O,
-) -> Acted<S, Used<Snapshot<OrderFile>, P, N>>
+) -> Acted<B, Used<Snapshot<OrderFile>, P, N>>
     ensures printed { IfOk result.0 (λ printed. PrintsText
-        (HasSent (file_from ⟦<FileKeeper<S> as Keeper>⟧ S.Start (λ keeper. keeper.conn)) sender result.1) printed
+        (HasSent (over ⟦<B::Kept as Keeper>⟧ B.facts) sender result.1) printed
         (O.contents out.old) (O.contents out.new)) }
-    ensures refused { IfErr result.0
-        (IsNotImported (file_from ⟦<FileKeeper<S> as Keeper>⟧ S.Start (λ keeper. keeper.conn)) sender result.1) }
+    ensures refused { IfErr result.0 (IsNotImported (over ⟦<B::Kept as Keeper>⟧ B.facts) sender result.1) }
     ensures unchanged { OnErr result.0 (out.new ≡ out.old) }
-    ensures at { IsOf (file_from ⟦<FileKeeper<S> as Keeper>⟧ S.Start (λ keeper. keeper.conn)) file.now result.1 }
+    ensures at { IsOf (over ⟦<B::Kept as Keeper>⟧ B.facts) file.now result.1 }
 {
-    match close_book(send(rt, file, sender, orders, start)) {
+    match close_book::<B, _>(send(rt, file, sender, orders, start)) {
         Ok((closed, done)) => {
             let (sent, read) = done;
             (
@@ -59,65 +57,62 @@ pub fn import<S: Start, O: Write, P, N>(
             )
         }
         Err(unopened) => (
-            Err(failure_of_unopened(&unopened)),
+            Err(failure_of_refused::<B>(&unopened)),
             Touched::Refused(unopened),
         ),
     }
 }
 
 // Opens the book in a file, and submits a participant's file of orders to its desk, as it was read.
-fn send<S: Start>(
+fn send<B: BookFile>(
     rt: &HostRuntime,
     file: &str,
     sender: Code,
     orders: &str,
-    start: S,
-) -> Finished<S, (Sent, Snapshot<OrderFile>)>
+    start: B,
+) -> Finished<B, (Sent, Snapshot<OrderFile>)>
     ensures rows { IfOk result (λ (_, done). IfOk done.0 (λ (rows, batch).
         AreRowsOf (λ bytes. bytes.items) done.1.value.answer rows.items)) }
     ensures stopped { IfOk result (λ (_, done). IfOk done.0 (λ (rows, batch).
         StopsAfter (length batch.replies.items) (length rows.items) batch.stopped)) }
     ensures sent { IfOk result (λ (book, done). IfOk done.0 (λ (rows, batch). IsSent
-        (file_from ⟦<FileKeeper<S> as Keeper>⟧ S.Start
-        (λ keeper. keeper.conn)) sender rows.items batch.replies.items batch.stopped book.desk)) }
+        (over ⟦<B::Kept as Keeper>⟧ B.facts) sender rows.items batch.replies.items batch.stopped book.desk)) }
     ensures refused { IfOk result (λ (book, done). IfErr done.0 (λ why.
         RefusesRows (λ bytes. bytes.items) done.1.value.answer why
-        × IsIdle (file_from ⟦<FileKeeper<S> as Keeper>⟧ S.Start (λ keeper. keeper.conn)) book.desk)) }
-    ensures unopened { IfErr result (λ unopened.
-        (file_from ⟦<FileKeeper<S> as Keeper>⟧ S.Start (λ keeper. keeper.conn)).was_unopened unopened) }
+        × IsIdle (over ⟦<B::Kept as Keeper>⟧ B.facts) book.desk)) }
+    ensures unopened { IfErr result (λ unopened. B.facts.was_unopened unopened) }
     ensures at { IfOk result (λ (book, _). string_bytes book.lock.locked.name ≡ lock_name file.now) }
-    ensures of { IfErr result (λ unopened.
-        (file_from ⟦<FileKeeper<S> as Keeper>⟧ S.Start (λ keeper. keeper.conn)).refused_at file.now unopened) }
+    ensures of { IfErr result (λ unopened. B.facts.refused_at file.now unopened) }
 {
-    let mut book = open(rt, file, start)?;
+    let mut book = start.open(rt, file)?;
     let read = OrderFile::read(rt, orders);
     let answer = Snapshot::of(&read);
-    let sent = submit_file(rt.alloc(), book.desk(), sender, read);
+    let sent = submit_file::<B>(rt.alloc(), book.desk(), sender, read);
     Ok((book.finish(), (sent, answer)))
 }
 
 // Submits the orders of a file that was read so.
-fn submit_file<S: Start>(
+fn submit_file<B: BookFile>(
     alloc: Global,
-    desk: &mut Desk<FileKeeper<S>>,
+    desk: &mut Desk<B::Kept>,
     sender: Code,
     read: OrderFile,
 ) -> Sent
     ensures rows { IfOk result (λ (rows, batch). AreRowsOf (λ bytes. bytes.items) read.answer rows.items) }
     ensures stopped { IfOk result (λ (rows, batch).
         StopsAfter (length batch.replies.items) (length rows.items) batch.stopped) }
-    ensures sent { IfOk result (λ (rows, batch). ⟦<FileKeeper<S> as Keeper>⟧.is_honest desk.new.keeper
-        → (book : Book) → Holds ⟦<FileKeeper<S> as Keeper>⟧ desk.old book
-        → SentOver (file_from ⟦<FileKeeper<S> as Keeper>⟧ S.Start (λ keeper. keeper.conn))
+    ensures sent { IfOk result (λ (rows, batch). ⟦<B::Kept as Keeper>⟧.is_honest desk.new.keeper
+        → (book : Book) → Holds ⟦<B::Kept as Keeper>⟧ desk.old book
+        → SentOver (over ⟦<B::Kept as Keeper>⟧ B.facts)
         book sender rows.items batch.replies.items batch.stopped desk.new) }
     ensures refused { IfErr result (RefusesRows (λ bytes. bytes.items) read.answer) }
     ensures unchanged { OnErr result (desk.new ≡ desk.old) }
-    ensures honest { ⟦<FileKeeper<S> as Keeper>⟧.is_honest desk.new.keeper
-        → ⟦<FileKeeper<S> as Keeper>⟧.is_honest desk.old.keeper }
+    ensures honest { ⟦<B::Kept as Keeper>⟧.is_honest desk.new.keeper
+        → ⟦<B::Kept as Keeper>⟧.is_honest desk.old.keeper }
 {
     let bytes = read.taken()?;
     let sent = submit_orders(alloc, desk, sender, bytes.as_slice());
-    what_a_session_leaves(desk);
+    B::what_a_session_leaves(desk);
     sent
 }
 

@@ -37,7 +37,7 @@ read_with file desk_of text_of reading finished all book done is =
     IfOk-at_ok (λ p. IsRead file text_of reading p.1 (desk_of p.0)) is all
 
 module _ {K U C : Type 0} (file : OverFile K U C) {opened lent left finished : Seen K} (lends : lent ≡ opened)
-    (same : finished ≡ left) (over : file.keeper.is_honest opened.keeper → file.was_opened opened)
+    (same : finished ≡ left) (over : file.keeper.is_honest opened.keeper → file.facts.was_opened opened)
     (honest : file.keeper.is_honest left.keeper → file.keeper.is_honest lent.keeper) where
   -- a promise of each book that the desk held when it was lent
   abbrev Promises : (Book → Type 0) → Type 0
@@ -47,7 +47,8 @@ module _ {K U C : Type 0} (file : OverFile K U C) {opened lent left finished : S
   is_done Does did = record {
     opened = lent;
     over = λ was_honest.
-        subst (λ desk. file.keeper.is_honest desk.keeper → file.was_opened desk) (sym lends) over (honest was_honest);
+        subst (λ desk. file.keeper.is_honest desk.keeper → file.facts.was_opened desk) (sym lends) over
+        (honest was_honest);
     did = did;
   }
 

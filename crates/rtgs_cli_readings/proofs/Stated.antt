@@ -45,7 +45,7 @@ module _ {K B U C E O : Type 0} (A F P N : Type 0) (file : OverFile K U C) (desk
       → file.keeper.has_failed (desk_of p.0).keeper ≡ true))
       (lines : IfOk finished (λ p. LeavesLines p.1 (contents old) (contents new)))
       (book : B) (written : Result ⊤ BookTextFault) (is : finished ≡ Ok (book, written)) (closed : C)
-      (shut : file.was_closed (desk_of book) closed) where
+      (shut : file.facts.was_closed (desk_of book).keeper closed) where
     -- what the run touched
     abbrev shown : Touched A U C (Used F P N)
     shown = traces.Book closed used.Nothing

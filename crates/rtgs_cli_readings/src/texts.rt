@@ -1,7 +1,7 @@
 //! Runs that show what the desk tells: a text that is gathered in memory, or a statement.
 ghost use Rattle.std.specs.Prelude.{◌≡◌, None, Ok, Err, IfOk, IfErr, OnErr, string_bytes};
-ghost use Rattle.rtgs_book_file.specs.Files.{lock_name};
-ghost use Rattle.rtgs_book_file.specs.OverFile.{file_from};
+ghost use Rattle.rtgs_book_file.specs.LockName.{lock_name};
+ghost use Rattle.rtgs_book_file.specs.OverFile.{over};
 ghost use Rattle.rtgs_cli_lines.specs.Texts.{Prints};
 ghost use Rattle.rtgs_cli_files.specs.Printing.{PrintsText};
 ghost use Rattle.rtgs_cli_files.specs.Touching.{IsOf};
@@ -9,8 +9,8 @@ ghost use Rattle.rtgs_cli_readings.specs.Readings.{Denies, HasRead, IsNotRead, I
 
 use crate::statements::show_statement;
 use rtgs_book::{Reading, Refusal};
-use rtgs_book_file::{FileKeeper, Start};
-use rtgs_cli_files::{Acted, Finished, Touched, Used, close_book, failure_of_unopened, open};
+use rtgs_book_file::BookFile;
+use rtgs_cli_files::{Acted, Finished, Touched, Used, close_book, failure_of_refused};
 use rtgs_cli_lines::{Failure, Printed};
 use rtgs_http_bodies::text_of;
 use rtgs_keeper::Keeper;
@@ -19,19 +19,19 @@ use std::io::Write;
 
 /// Prints what the desk over a file tells of a reading: a statement row by row, as its records are read, and else the
 /// whole text, once the file is closed.
-pub fn show<S: Start, O: Write, F, P, N>(
+pub fn show<B: BookFile, O: Write, F, P, N>(
     rt: &HostRuntime,
     file: &str,
     reading: Reading,
-    start: S,
+    start: B,
     out: &mut O,
-) -> Acted<S, Used<F, P, N>>
+) -> Acted<B, Used<F, P, N>>
     ensures printed { IfOk result.0 (λ printed. Shows
-        (file_from ⟦<FileKeeper<S> as Keeper>⟧ S.Start (λ keeper. keeper.conn)) reading result.1 printed
+        (over ⟦<B::Kept as Keeper>⟧ B.facts) reading result.1 printed
         (O.contents out.old) (O.contents out.new)) }
-    ensures refused { IfErr result.0 (λ why. Denies (file_from ⟦<FileKeeper<S> as Keeper>⟧ S.Start
-        (λ keeper. keeper.conn)) O.contents reading result.1 why out.old out.new) }
-    ensures at { IsOf (file_from ⟦<FileKeeper<S> as Keeper>⟧ S.Start (λ keeper. keeper.conn)) file.now result.1 }
+    ensures refused { IfErr result.0 (λ why. Denies
+        (over ⟦<B::Kept as Keeper>⟧ B.facts) O.contents reading result.1 why out.old out.new) }
+    ensures at { IsOf (over ⟦<B::Kept as Keeper>⟧ B.facts) file.now result.1 }
 {
     match reading {
         Reading::Statement { code, date } => show_statement(rt, file, code, date, start, out),
@@ -40,47 +40,44 @@ pub fn show<S: Start, O: Write, F, P, N>(
 }
 
 // Prints the text of a reading, gathered in memory, once the file is closed.
-fn show_text<S: Start, O: Write, F, P, N>(
+fn show_text<B: BookFile, O: Write, F, P, N>(
     rt: &HostRuntime,
     file: &str,
     reading: Reading,
-    start: S,
+    start: B,
     out: &mut O,
-) -> Acted<S, Used<F, P, N>>
+) -> Acted<B, Used<F, P, N>>
     ensures printed { IfOk result.0 (λ printed. PrintsText
-        (HasRead (file_from ⟦<FileKeeper<S> as Keeper>⟧ S.Start (λ keeper. keeper.conn)) reading result.1) printed
+        (HasRead (over ⟦<B::Kept as Keeper>⟧ B.facts) reading result.1) printed
         (O.contents out.old) (O.contents out.new)) }
-    ensures refused { IfErr result.0
-        (IsNotRead (file_from ⟦<FileKeeper<S> as Keeper>⟧ S.Start (λ keeper. keeper.conn)) reading result.1) }
+    ensures refused { IfErr result.0 (IsNotRead (over ⟦<B::Kept as Keeper>⟧ B.facts) reading result.1) }
     ensures unchanged { OnErr result.0 (out.new ≡ out.old) }
-    ensures at { IsOf (file_from ⟦<FileKeeper<S> as Keeper>⟧ S.Start (λ keeper. keeper.conn)) file.now result.1 }
+    ensures at { IsOf (over ⟦<B::Kept as Keeper>⟧ B.facts) file.now result.1 }
 {
-    match close_book(read(rt, file, reading, start)) {
+    match close_book::<B, _>(read(rt, file, reading, start)) {
         Ok((closed, read)) => (print_read(read, out), Touched::Book(closed, Used::Nothing)),
         Err(unopened) => (
-            Err(failure_of_unopened(&unopened)),
+            Err(failure_of_refused::<B>(&unopened)),
             Touched::Refused(unopened),
         ),
     }
 }
 
 // Opens the book in a file, and reads what its desk tells.
-fn read<S: Start>(
+fn read<B: BookFile>(
     rt: &HostRuntime,
     file: &str,
     reading: Reading,
-    start: S,
-) -> Finished<S, Result<Vec<u8>, Refusal>>
+    start: B,
+) -> Finished<B, Result<Vec<u8>, Refusal>>
     ensures read { IfOk result (λ (book, read). IsRead
-        (file_from ⟦<FileKeeper<S> as Keeper>⟧ S.Start (λ keeper. keeper.conn))
+        (over ⟦<B::Kept as Keeper>⟧ B.facts)
         (λ text. text.items) reading read book.desk) }
-    ensures unopened { IfErr result (λ unopened.
-        (file_from ⟦<FileKeeper<S> as Keeper>⟧ S.Start (λ keeper. keeper.conn)).was_unopened unopened) }
+    ensures unopened { IfErr result (λ unopened. B.facts.was_unopened unopened) }
     ensures at { IfOk result (λ (book, _). string_bytes book.lock.locked.name ≡ lock_name file.now) }
-    ensures of { IfErr result (λ unopened.
-        (file_from ⟦<FileKeeper<S> as Keeper>⟧ S.Start (λ keeper. keeper.conn)).refused_at file.now unopened) }
+    ensures of { IfErr result (λ unopened. B.facts.refused_at file.now unopened) }
 {
-    let mut book = open(rt, file, start)?;
+    let mut book = start.open(rt, file)?;
     let read = text_of(rt.alloc(), book.desk(), &reading);
     Ok((book.finish(), read))
 }

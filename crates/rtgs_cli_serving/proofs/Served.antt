@@ -20,7 +20,7 @@ use Rattle.rtgs_cli_serving.specs.Serving.{server_text, stop_of_desk}
 use Rattle.rtgs_cli_serving.specs.declared.no_port.NoPort.{NoPort}
 
 module _ {K U C : Type 0} (file : OverFile K U C) {opened lent left finished : Seen K} (lends : lent ≡ opened)
-    (same : finished ≡ left) (over : file.keeper.is_honest opened.keeper → file.was_opened opened)
+    (same : finished ≡ left) (over : file.keeper.is_honest opened.keeper → file.facts.was_opened opened)
     (honest : file.keeper.is_honest left.keeper → file.keeper.is_honest lent.keeper) {V W : Type 0} where
   pub was_served : (served : Result V W) (operator : List ℕ) (Says : Bool → V → Type 0)
       → IfOk served (λ it. (file.keeper.is_honest left.keeper → (book : Book) → Holds file.keeper lent book
@@ -30,7 +30,8 @@ module _ {K U C : Type 0} (file : OverFile K U C) {opened lent left finished : S
       (λ desk. IsServed file operator desk × Says (file.keeper.has_failed desk.keeper) it) (sym same) (
         record {
           opened = lent;
-          over = λ was_honest. subst (λ desk. file.keeper.is_honest desk.keeper → file.was_opened desk) (sym lends) over
+          over = λ was_honest.
+              subst (λ desk. file.keeper.is_honest desk.keeper → file.facts.was_opened desk) (sym lends) over
               (honest was_honest);
           did = did.0;
         },
@@ -47,7 +48,7 @@ module _ {K U C : Type 0} (file : OverFile K U C) {opened lent left finished : S
 module _ {K B U C E F : Type 0} (A : Type 0) (file : OverFile K U C) (desk_of : B → Seen K)
     (finished : Result (B × (Result Printed Failure × Used F (Snapshot Port) (Snapshot NoPort))) E) (book : B)
     (beside : Used F (Snapshot Port) (Snapshot NoPort)) (closed : C)
-    (shut : file.was_closed (desk_of book) closed) where
+    (shut : file.facts.was_closed (desk_of book).keeper closed) where
   -- what the run touched
   abbrev touched : Touched A U C (Used F (Snapshot Port) (Snapshot NoPort))
   touched = traces.Book closed beside

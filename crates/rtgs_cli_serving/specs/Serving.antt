@@ -66,7 +66,7 @@ module _ {K U C : Type 0} (file : OverFile K U C) where
   abbrev pub ServedOver : List ℕ → Book → Seen K → Type 0
   ServedOver operator book desk = (commands : List Command) × (replies : List Reply)
       × AreAsked operator book commands replies × Makes file.keeper book commands replies desk
-      × file.stop_leaves desk book commands replies
+      × file.facts.stop_leaves desk book commands replies
 
   -- Requests were served under the operator's digest: the commands that they asked for, and no others, are one session,
   -- and a stop leaves a book that it may find.

@@ -1,8 +1,8 @@
 //! Runs that serve connections to the desk over a file.
 ghost use Rattle.std.specs.Prelude.{◌≡◌, false, IfOk, IfErr, OnErr, string_bytes};
 ghost use Rattle.rtgs_book.specs.declared.book.Book.{Book};
-ghost use Rattle.rtgs_book_file.specs.Files.{lock_name};
-ghost use Rattle.rtgs_book_file.specs.OverFile.{file_from};
+ghost use Rattle.rtgs_book_file.specs.LockName.{lock_name};
+ghost use Rattle.rtgs_book_file.specs.OverFile.{over};
 ghost use Rattle.rtgs_desk.specs.Holding.{Holds};
 ghost use Rattle.rtgs_cli_lines.specs.Texts.{Prints};
 ghost use Rattle.rtgs_http_server.specs.Requests.{WorksForAll};
@@ -13,9 +13,8 @@ ghost use Rattle.rtgs_cli_serving.specs.Serving.{server_text, stop_of_desk, Take
 
 use crate::no_port::NoPort;
 use rtgs_book::Refusal;
-use rtgs_book_file::stored_desk::laws::what_a_session_leaves;
-use rtgs_book_file::{FileKeeper, Start};
-use rtgs_cli_files::{Acted, Finished, Touched, Used, close_book, failure_of_unopened, open};
+use rtgs_book_file::BookFile;
+use rtgs_cli_files::{Acted, Finished, Touched, Used, close_book, failure_of_refused};
 use rtgs_cli_lines::{Done, Failure, Printed};
 use rtgs_desk::Desk;
 use rtgs_http_server::laws::a_desk_at_rest_works_for_all;
@@ -31,88 +30,85 @@ type PortUsed<F> = Used<F, Snapshot<Port>, Snapshot<NoPort>>;
 
 /// Serves so many connections to the desk over a file on a port of this machine, one after another, and says so. A run
 /// whose desk fails ends as stopped, after the connection on which it failed.
-pub fn serve<S: Start, O: Write, F>(
+pub fn serve<B: BookFile, O: Write, F>(
     rt: &HostRuntime,
     file: &str,
     port: u16,
     count: u32,
     operator: KeyDigest,
-    start: S,
+    start: B,
     out: &mut O,
-) -> Acted<S, Used<F, Snapshot<Port>, Snapshot<NoPort>>>
+) -> Acted<B, Used<F, Snapshot<Port>, Snapshot<NoPort>>>
     ensures printed { IfOk result.0 (λ printed. Serves
-        (file_from ⟦<FileKeeper<S> as Keeper>⟧ S.Start (λ keeper. keeper.conn)) port count operator result.1 printed
+        (over ⟦<B::Kept as Keeper>⟧ B.facts) port count operator result.1 printed
         (O.contents out.old) (O.contents out.new)) }
-    ensures refused { IfErr result.0
-        (IsNotServed (file_from ⟦<FileKeeper<S> as Keeper>⟧ S.Start (λ keeper. keeper.conn)) result.1) }
+    ensures refused { IfErr result.0 (IsNotServed (over ⟦<B::Kept as Keeper>⟧ B.facts) result.1) }
     ensures unchanged { OnErr result.0 (out.new ≡ out.old) }
-    ensures at { IsOf (file_from ⟦<FileKeeper<S> as Keeper>⟧ S.Start (λ keeper. keeper.conn)) file.now result.1 }
+    ensures at { IsOf (over ⟦<B::Kept as Keeper>⟧ B.facts) file.now result.1 }
 {
-    match close_book(serve_book(rt, file, port, count, &operator, start, out)) {
+    match close_book::<B, _>(serve_book(rt, file, port, count, &operator, start, out)) {
         Ok((closed, done)) => {
             let (served, used) = done;
             (served, Touched::Book(closed, used))
         }
         Err(unopened) => (
-            Err(failure_of_unopened(&unopened)),
+            Err(failure_of_refused::<B>(&unopened)),
             Touched::Refused(unopened),
         ),
     }
 }
 
 // Opens the book in a file, and serves connections to its desk.
-fn serve_book<S: Start, O: Write, F>(
+fn serve_book<B: BookFile, O: Write, F>(
     rt: &HostRuntime,
     file: &str,
     port: u16,
     count: u32,
     operator: &KeyDigest,
-    start: S,
+    start: B,
     out: &mut O,
-) -> Finished<S, (Result<Printed, Failure>, PortUsed<F>)>
+) -> Finished<B, (Result<Printed, Failure>, PortUsed<F>)>
     ensures served { IfOk result (λ (book, done). IfOk done.0 (λ printed.
-        IsServed (file_from ⟦<FileKeeper<S> as Keeper>⟧ S.Start (λ keeper. keeper.conn)) operator.now book.desk
-        × Prints (server_text port count (⟦<FileKeeper<S> as Keeper>⟧.has_failed book.desk.keeper))
-        (stop_of_desk (⟦<FileKeeper<S> as Keeper>⟧.has_failed book.desk.keeper)) printed (O.contents out.old)
+        IsServed (over ⟦<B::Kept as Keeper>⟧ B.facts) operator.now book.desk
+        × Prints (server_text port count (⟦<B::Kept as Keeper>⟧.has_failed book.desk.keeper))
+        (stop_of_desk (⟦<B::Kept as Keeper>⟧.has_failed book.desk.keeper)) printed (O.contents out.old)
         (O.contents out.new))) }
     ensures taken { IfOk result (λ (_, done). IfOk done.0 (λ printed.
         TakesAt port count done.1 printed (O.contents out.old) (O.contents out.new))) }
     ensures refused { IfOk result (λ (book, done). IfErr done.0 (λ why. IsNotListening done.1 why
-        × IsIdle (file_from ⟦<FileKeeper<S> as Keeper>⟧ S.Start (λ keeper. keeper.conn)) book.desk)) }
-    ensures unopened { IfErr result (λ unopened.
-        (file_from ⟦<FileKeeper<S> as Keeper>⟧ S.Start (λ keeper. keeper.conn)).was_unopened unopened) }
+        × IsIdle (over ⟦<B::Kept as Keeper>⟧ B.facts) book.desk)) }
+    ensures unopened { IfErr result (λ unopened. B.facts.was_unopened unopened) }
     ensures at { IfOk result (λ (book, _). string_bytes book.lock.locked.name ≡ lock_name file.now) }
-    ensures of { IfErr result (λ unopened.
-        (file_from ⟦<FileKeeper<S> as Keeper>⟧ S.Start (λ keeper. keeper.conn)).refused_at file.now unopened) }
+    ensures of { IfErr result (λ unopened. B.facts.refused_at file.now unopened) }
     ensures unchanged { OnErr result (out.new ≡ out.old) }
     ensures silent { IfOk result (λ (_, done). OnErr done.0 (out.new ≡ out.old)) }
 {
-    let mut book = open(rt, file, start)?;
-    let served = serve_desk(rt, book.desk(), port, count, operator, out);
+    let mut book = start.open(rt, file)?;
+    let served = serve_desk::<B, _, _>(rt, book.desk(), port, count, operator, out);
     Ok((book.finish(), served))
 }
 
 // Serves so many connections on a port to the desk over a file. Refused where the port cannot be had, or for lack of
 // memory.
-fn serve_desk<S: Start, O: Write, F>(
+fn serve_desk<B: BookFile, O: Write, F>(
     rt: &HostRuntime,
-    desk: &mut Desk<FileKeeper<S>>,
+    desk: &mut Desk<B::Kept>,
     port: u16,
     count: u32,
     operator: &KeyDigest,
     out: &mut O,
 ) -> (Result<Printed, Failure>, PortUsed<F>)
-    ensures served { IfOk result.0 (λ printed. (⟦<FileKeeper<S> as Keeper>⟧.is_honest desk.new.keeper
-        → (book : Book) → Holds ⟦<FileKeeper<S> as Keeper>⟧ desk.old book
-        → ServedOver (file_from ⟦<FileKeeper<S> as Keeper>⟧ S.Start (λ keeper. keeper.conn)) operator.now book
+    ensures served { IfOk result.0 (λ printed. (⟦<B::Kept as Keeper>⟧.is_honest desk.new.keeper
+        → (book : Book) → Holds ⟦<B::Kept as Keeper>⟧ desk.old book
+        → ServedOver (over ⟦<B::Kept as Keeper>⟧ B.facts) operator.now book
         desk.new)
-        × Prints (server_text port count (⟦<FileKeeper<S> as Keeper>⟧.has_failed desk.new.keeper))
-        (stop_of_desk (⟦<FileKeeper<S> as Keeper>⟧.has_failed desk.new.keeper)) printed (O.contents out.old)
+        × Prints (server_text port count (⟦<B::Kept as Keeper>⟧.has_failed desk.new.keeper))
+        (stop_of_desk (⟦<B::Kept as Keeper>⟧.has_failed desk.new.keeper)) printed (O.contents out.old)
         (O.contents out.new)) }
     ensures taken { IfOk result.0 (λ printed.
         TakesAt port count result.1 printed (O.contents out.old) (O.contents out.new)) }
-    ensures honest { ⟦<FileKeeper<S> as Keeper>⟧.is_honest desk.new.keeper
-        → ⟦<FileKeeper<S> as Keeper>⟧.is_honest desk.old.keeper }
+    ensures honest { ⟦<B::Kept as Keeper>⟧.is_honest desk.new.keeper
+        → ⟦<B::Kept as Keeper>⟧.is_honest desk.old.keeper }
     ensures refused { IfErr result.0 (IsNotListening result.1) }
     ensures idle { OnErr result.0 (desk.new ≡ desk.old) }
     ensures unchanged { OnErr result.0 (out.new ≡ out.old) }
@@ -120,7 +116,7 @@ fn serve_desk<S: Start, O: Write, F>(
     match NoPort::unless_listening(rt, port, count) {
         Ok(mut connections) => {
             let printed = serve_all(rt.alloc(), &mut connections, desk, operator, port, out);
-            what_a_session_leaves(desk);
+            B::what_a_session_leaves(desk);
             (Ok(printed), Used::Port(Snapshot::of(&connections)))
         }
         Err(refused) => (Err(refused.failure()), Used::NoPort(Snapshot::of(&refused))),

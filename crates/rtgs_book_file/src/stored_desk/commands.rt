@@ -1,11 +1,11 @@
 //! Commands to a desk over tables, and what a stop then leaves.
-ghost use Rattle.std.specs.Prelude.{◌≡◌, ◌≢◌, true, false, Err, [], ◌∷◌, length, IfOk, OnErr};
+ghost use Rattle.std.specs.Prelude.{◌≡◌, true, false, Err, length, IfOk, OnErr};
 ghost use Rattle.std.specs.List.{AllByRecursion};
 ghost use Rattle.sqlite.specs.Held.{state};
 ghost use Rattle.sqlite.specs.State.{HasCleanDisk};
 ghost use Rattle.rtgs_book.specs.declared.book.Book.{Book};
-ghost use Rattle.rtgs_desk.specs.Holding.{Holds, Acts, Ran};
-ghost use Rattle.rtgs_desk.specs.Replies.{IsOfItsKind, IsOfAWorkingDesk, FailsOnce};
+ghost use Rattle.rtgs_desk.specs.Holding.{Holds, Ran};
+ghost use Rattle.rtgs_desk.specs.Replies.{IsOfAWorkingDesk, FailsOnce};
 ghost use Rattle.rtgs_book_file.specs.stored_desk.Stored.{StopLeaves};
 
 use crate::stored_desk::laws::what_a_session_leaves;
@@ -15,32 +15,6 @@ use rtgs_keeper::Keeper;
 use rtgs_tables::SqlKeeper;
 use sqlite::Alter;
 use std::alloc::AllocError;
-
-/// Carries out a command, as `Desk::submit` does: of a book that the desk holds it makes what the definitions say, and
-/// a stop leaves tables that hold the book before it or the one that it leads to.
-pub fn submit<S: Alter + Drop>(
-    desk: &mut Desk<SqlKeeper<S>>,
-    command: Command,
-) -> Result<WholeAnswer, Refusal>
-    ensures acts { HasCleanDisk (state S.Store desk.new.keeper.conn) → (book : Book)
-        → Holds ⟦<SqlKeeper<S> as Keeper>⟧ desk.old book
-        → Acts ⟦<SqlKeeper<S> as Keeper>⟧ book command result desk.new }
-    ensures left { HasCleanDisk (state S.Store desk.new.keeper.conn) → (book : Book)
-        → Holds ⟦<SqlKeeper<S> as Keeper>⟧ desk.old book
-        → StopLeaves book (command ∷ []) (result ∷ []) (state S.Store desk.new.keeper.conn) }
-    ensures honest { HasCleanDisk (state S.Store desk.new.keeper.conn)
-        → HasCleanDisk (state S.Store desk.old.keeper.conn) }
-    ensures of_its_kind { IfOk result (IsOfItsKind command) }
-    ensures fault { result ≡ Err Refusal.StoreFault
-        → (desk.old.keeper.failed ≡ false) × (desk.new.keeper.failed ≡ true) }
-    ensures only_fault { result ≢ Err Refusal.StoreFault → desk.new.keeper.failed ≡ desk.old.keeper.failed }
-    ensures failed { desk.old.keeper.failed ≡ true → (result ≡ Err Refusal.Failed) × (desk.new ≡ desk.old) }
-    ensures only_failed { result ≡ Err Refusal.Failed → desk.old.keeper.failed ≡ true }
-{
-    let reply = desk.submit(command);
-    what_a_session_leaves(desk);
-    reply
-}
 
 /// Carries out commands in order, as `Desk::run` does, and gives an answer to each. Lack of memory for the answers
 /// comes before the first command, and changes nothing.

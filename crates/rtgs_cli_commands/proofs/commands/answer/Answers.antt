@@ -1,4 +1,4 @@
-use Rattle.std.proofs.Common.{◌≡◌, ◌∙◌, true, None, refl, ap, inl, inr, subst, string_bytes}
+use Rattle.std.proofs.Common.{◌≡◌, true, None, refl, inl, inr, subst, string_bytes}
 use Rattle.std.specs.Result.{IfOk}
 use Rattle.std.proofs.lemmas.Result.{IfOk-at_ok, IfOk-weaker, IfErr-at_err, IfErr-weaker}
 use Rattle.rtgs_desk.specs.Replies.{IsOfItsKind}
@@ -45,13 +45,13 @@ returns-in-Err-clause-refused g c = inl (
   c.in-Err.unopened,
   refl,
   IfErr-at_err _ c.in-Err.ensures.unopened c.submit.ensures.unopened,
-  c.failure_of_unopened.ensures,
+  c.failure_of_refused.ensures,
 )
 
 pub returns-in-Ok-clause-at : goal.returns-in-Ok-clause-at
 returns-in-Ok-clause-at g c =
     let (book, is, shut, named) = c.in-Ok.ensures.done in
-    ap string_bytes named ∙ IfOk-at_ok (λ p. string_bytes p.0.lock.locked.name ≡ _) is c.submit.ensures.at
+    named _ (IfOk-at_ok (λ p. string_bytes p.0.lock.locked.name ≡ _) is c.submit.ensures.at)
 
 pub returns-in-Err-clause-at : goal.returns-in-Err-clause-at
 returns-in-Err-clause-at g c = IfErr-at_err _ c.in-Err.ensures.unopened c.submit.ensures.of

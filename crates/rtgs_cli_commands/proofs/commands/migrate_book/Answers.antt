@@ -18,4 +18,4 @@ returns-in-Ok-clause-printed g c = (
 
 pub returns-in-Err-clause-refused : goal.returns-in-Err-clause-refused
 returns-in-Err-clause-refused g c =
-    (c.in-Err.unmigrated, refl, c.in-Err.ensures.refused, c.failure_of_unopened.ensures)
+    (c.in-Err.unmigrated, refl, c.in-Err.ensures.refused, c.failure_of_refused.ensures)

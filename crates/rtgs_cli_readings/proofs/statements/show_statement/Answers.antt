@@ -30,7 +30,7 @@ returns-in-Err-clause-refused g c = inl (
     c.in-Err.unopened,
     refl,
     IfErr-at_err _ c.in-Err.ensures.unopened c.write.ensures.unopened,
-    c.failure_of_unopened.ensures,
+    c.failure_of_refused.ensures,
   ),
   IfErr-at_err _ c.in-Err.ensures.unopened c.write.ensures.unchanged,
 )
@@ -38,7 +38,7 @@ returns-in-Err-clause-refused g c = inl (
 pub returns-in-Ok-clause-at : goal.returns-in-Ok-clause-at
 returns-in-Ok-clause-at g c =
     let (book, is, shut, named) = c.in-Ok.ensures.done in
-    ap string_bytes named ∙ IfOk-at_ok (λ p. string_bytes p.0.lock.locked.name ≡ _) is c.write.ensures.at
+    named _ (IfOk-at_ok (λ p. string_bytes p.0.lock.locked.name ≡ _) is c.write.ensures.at)
 
 pub returns-in-Err-clause-at : goal.returns-in-Err-clause-at
 returns-in-Err-clause-at g c = IfErr-at_err _ c.in-Err.ensures.unopened c.write.ensures.of

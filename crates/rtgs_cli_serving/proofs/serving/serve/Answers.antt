@@ -1,4 +1,4 @@
-use Rattle.std.proofs.Common.{◌≡◌, ◌∙◌, refl, ap, inl, string_bytes}
+use Rattle.std.proofs.Common.{◌≡◌, refl, inl, string_bytes}
 use Rattle.std.proofs.lemmas.Result.{IfOk-at_ok, IfErr-at_err}
 use Rattle.rtgs_cli_serving.proofs.Served.{served_with, idle_with}
 use Rattle.rtgs_cli_serving.proofs.serving.serve.Goals as goal
@@ -20,13 +20,13 @@ returns-in-Err-clause-refused g c = inl (
   c.in-Err.unopened,
   refl,
   IfErr-at_err _ c.in-Err.ensures.unopened c.serve_book.ensures.unopened,
-  c.failure_of_unopened.ensures,
+  c.failure_of_refused.ensures,
 )
 
 pub returns-in-Ok-clause-at : goal.returns-in-Ok-clause-at
 returns-in-Ok-clause-at g c =
     let (book, is, shut, named) = c.in-Ok.ensures.done in
-    ap string_bytes named ∙ IfOk-at_ok (λ p. string_bytes p.0.lock.locked.name ≡ _) is c.serve_book.ensures.at
+    named _ (IfOk-at_ok (λ p. string_bytes p.0.lock.locked.name ≡ _) is c.serve_book.ensures.at)
 
 pub returns-in-Err-clause-at : goal.returns-in-Err-clause-at
 returns-in-Err-clause-at g c = IfErr-at_err _ c.in-Err.ensures.unopened c.serve_book.ensures.of

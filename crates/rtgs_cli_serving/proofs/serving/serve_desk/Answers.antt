@@ -4,18 +4,18 @@ use Rattle.rtgs_cli_serving.specs.Serving.{server_text, stop_of_desk, TakesAsPri
 use Rattle.rtgs_cli_serving.proofs.serving.serve_desk.Goals as goal
 
 pub returns-in-Ok-clause-served : goal.returns-in-Ok-clause-served
-returns-in-Ok-clause-served g c = (
-  (λ honest book held.
-      let works = c.serve_all-printed.ensures.works honest book held in
-      let made = works.3 in
-      let left = c.what_a_session_leaves.ensures book _ _ made.whole_after_a_crash made.session
-      made.calm_after_a_crash in
-      (works.0, works.1, works.2, made, left)),
-  subst (λ count. Prints (server_text c.args.port count c.serve_all-printed.new.desk.keeper.failed)
-      (stop_of_desk c.serve_all-printed.new.desk.keeper.failed) c.serve_all-printed.result
-      (g.O.Write.contents c.args.out.now) (g.O.Write.contents c.serve_all-printed.new.out))
-      c.in-Ok.ensures c.serve_all-printed.ensures.printed,
-)
+returns-in-Ok-clause-served g c =
+    let failed = g.B.Kept.Keeper.has_failed c.serve_all-printed.new.desk.keeper in (
+      (λ honest book held.
+          let works = c.serve_all-printed.ensures.works honest book held in
+          let made = works.3 in
+          let left = c.what_a_session_leaves.ensures book _ _ made.whole_after_a_crash made.session
+          made.calm_after_a_crash in
+          (works.0, works.1, works.2, made, left)),
+      subst (λ count. Prints (server_text c.args.port count failed) (stop_of_desk failed) c.serve_all-printed.result
+          (g.O.Write.contents c.args.out.now) (g.O.Write.contents c.serve_all-printed.new.out))
+          c.in-Ok.ensures c.serve_all-printed.ensures.printed,
+    )
 
 pub returns-in-Ok-clause-taken : goal.returns-in-Ok-clause-taken
 returns-in-Ok-clause-taken g c =
