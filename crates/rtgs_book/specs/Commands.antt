@@ -18,8 +18,8 @@ use Rattle.rtgs_book.specs.declared.refusal.Refusal.TheVariants.{DueNotLater}
 use Rattle.rtgs_book.specs.declared.limits.TheConstants.{MOST_PARTICIPANTS, LONGEST_QUEUE, LARGEST_NUMBER}
 use Rattle.rtgs_book.specs.declared.limits.TheConstants.{LARGEST_TOTAL}
 use Rattle.rtgs_book.specs.Books.{Book, Day, NewDay, Closed, Open, CutOff, Participant, Posting, Order, NewOrder}
-use Rattle.rtgs_book.specs.Books.{OrderState, Queued, Held, Withdrawn, Rejected, is_closed, is_open, is_cut_off, is_queued}
-use Rattle.rtgs_book.specs.Books.{is_held, is_waiting, is_withdrawn_state, is_empty}
+use Rattle.rtgs_book.specs.Books.{OrderState, Queued, Held, Withdrawn, Rejected, is_closed, is_open, is_cut_off}
+use Rattle.rtgs_book.specs.Books.{is_queued, is_held, is_waiting, is_withdrawn_state, is_empty}
 use Rattle.rtgs_book.specs.Lookup.{has_code, accounts, participant_of, is_participant, order_named, posting_named}
 use Rattle.rtgs_book.specs.Balance.{balance, floor, total}
 use Rattle.rtgs_book.specs.Queue.{queue, waiting}

@@ -12,6 +12,7 @@ pub struct HeldLock {
 }
 
 impl HeldLock {
+    /// This lock, which is held from here on until the files are gone.
     pub(crate) fn of(locked: Locked) -> HeldLock
         ensures { result.locked ≡ locked }
     {

@@ -13,7 +13,7 @@ use std::fs::TryLockError;
 use std::io;
 use std::io::ErrorKind;
 
-/// Why the lock of a book's file is not taken. Only want of memory for its name, and an answer of the system that its
+/// Why the lock of a book's file is not taken. Only lack of memory for its name, and an answer of the system that its
 /// own file is not opened or not locked, make one.
 #[derive(Drop)]
 pub(crate) struct NotLocked {

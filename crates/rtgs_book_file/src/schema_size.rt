@@ -30,6 +30,7 @@ pub(crate) struct SchemaSize {
 }
 
 impl SchemaSize {
+    /// How many objects the file lists.
     pub(crate) fn listed(self) -> ObjectCount
         ensures { result ≡ self.listed }
     {

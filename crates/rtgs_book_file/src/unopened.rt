@@ -31,6 +31,7 @@ impl<S: Start> Unopened<S> {
         Unopened { fault, cause, name }
     }
 
+    /// What was wrong with the file.
     pub fn fault(&self) -> FileFault
         ensures { result ≡ self.now.fault }
     {

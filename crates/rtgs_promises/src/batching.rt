@@ -21,6 +21,7 @@ use sqlite::Alter;
 use sqlite_trees::store::Reopen;
 use std::alloc::Global;
 
+/// Sends the rows of an order file, and gives how each was answered.
 pub(crate) fn send<K: Keeper>(
     alloc: Global,
     desk: &mut Desk<K>,

@@ -1,4 +1,4 @@
-//! The beginning of sessions with a desk, and their end for want of memory.
+//! The beginning of sessions with a desk, and their end for lack of memory.
 ghost use Rattle.std.specs.Prelude.{◌≡◌, ◌≤◌, false, List, [], length, map, vec_capacity, IfOk, IfErr, IsTrue};
 ghost use Rattle.sqlite.specs.Held.{state};
 ghost use Rattle.sqlite.specs.State.{HasCleanDisk};

@@ -33,6 +33,7 @@ fn only_row<T: OneRow>(rows: &[Row]) -> Result<T, Fault>
     }
 }
 
+/// The record of a table that has one row. Any other rows are `NotADeskFile`.
 pub(crate) fn read_one<T: OneRow, S: Alter>(
     alloc: Global,
     conn: &mut Connection<S>,

@@ -38,7 +38,7 @@ due_under number forwards =
     option_map (λ (f : Forward). f.due) (find (λ (f : Forward). f.number == number) forwards)
 
 -- What a look leaves: nothing is written, and the tables stay unless the store failed. It fails by the store or for
--- want of memory alone.
+-- lack of memory alone.
 pub record IsLook {S A : Type 0} (g : Ghosts S) (old new : Held S) (result : Result A Fault) : Type 0 where
   pub survives : Survives (state g old) (state g new) (λ _. ⊥)
   pub mode : old.in_transaction ≡ false → new.in_transaction ≡ false

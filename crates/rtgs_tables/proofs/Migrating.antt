@@ -325,7 +325,7 @@ written old mid new version judged keeps older one two =
 pub unwritten : (old new : State) → Survives old new (λ _. ⊥) → Survives old new (IsWritten old)
 unwritten old new = survives_weaker old new _ _ (λ _ trees none. absurd none)
 
--- a fault that is not the store's is want of memory
+-- a fault that is not the store's is lack of memory
 pub memory_of : (fault : Fault) → (fault ≡ OutOfMemory) ⊎ (fault ≡ StoreFault) → fault ≢ StoreFault
     → fault ≡ OutOfMemory
 memory_of fault (inl memory) other = memory
@@ -391,7 +391,7 @@ module _ {S : Type 0} (g : Ghosts S) (in_order : RecordsStandInOrder) (old new :
           absurd (omega (arith, is, older))
     ]
 
-    -- it stopped before anything was judged, or for want of memory or by the store
+    -- it stopped before anything was judged, or for lack of memory or by the store
     refused : (fault : Fault) → ((version : ℕ) (book : Book) → IsOlder g version book old ⊎ HoldsBook g old book
         → (fault ≡ OutOfMemory) ⊎ (fault ≡ StoreFault)) → Migrates g old new (Err fault)
     refused fault why = record {

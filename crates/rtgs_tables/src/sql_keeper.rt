@@ -119,6 +119,7 @@ impl<S: Alter + Drop> SqlKeeper<S> {
         loaded
     }
 
+    /// The connection over which it keeps the book.
     pub fn into_connection(self) -> Connection<S>
         ensures { result ≡ self.conn }
     {

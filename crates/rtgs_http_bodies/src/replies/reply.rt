@@ -95,6 +95,7 @@ impl Reply {
         }
     }
 
+    /// The status that its first line names.
     pub fn status(&self) -> StatusCode
         ensures { result ≡ self.now.status }
     {

@@ -16,9 +16,9 @@ struct Scenario<'a> {
     credits: [u32; BANK_COUNT],
     // the orders that wait, in the order in which they came
     waiting: Vec<ScenarioOrder<'a>>,
-    // whether there was a resolution, and how many banks told what they have since anything happened
+    // whether there was a resolution, and how many banks, in their order, have been read since anything happened
     is_resolved: bool,
-    told: usize,
+    banks_read: usize,
 }
 
 /// Runs a scenario at a layer. It fails where the layer does otherwise than the scenario says, and where the scenario
@@ -30,7 +30,7 @@ pub fn plays<L: Layer>(alloc: Global, layer: &mut L, text: &str) -> Result<(), F
             scenario.line(layer, line)?;
         }
     }
-    if scenario.is_resolved && scenario.told == BANK_COUNT {
+    if scenario.is_resolved && scenario.banks_read == BANK_COUNT {
         Ok(())
     } else {
         Err(Fail::from("a scenario without a resolution, or without what each bank has then"))
@@ -47,7 +47,7 @@ impl<'a> Scenario<'a> {
             credits: [0; BANK_COUNT],
             waiting: Vec::new(alloc),
             is_resolved: false,
-            told: 0,
+            banks_read: 0,
         }
     }
 
@@ -56,7 +56,7 @@ impl<'a> Scenario<'a> {
         if kind == "has" {
             return self.has(layer, words);
         }
-        self.told = 0;
+        self.banks_read = 0;
         match kind {
             "post" => self.posts(layer, words),
             "credit" => self.limits(layer, words),
@@ -156,7 +156,9 @@ impl<'a> Scenario<'a> {
             }
         }
         self.are_named(queue.as_slice(), references)?;
-        self.told = self.told.saturating_add(1);
+        if bank_index(bank)? == self.banks_read {
+            self.banks_read = self.banks_read.saturating_add(1);
+        }
         layer.has(&account, queue.as_slice())
     }
 
