@@ -1,14 +1,15 @@
 -- What is said of one request is said of another that is the same.
 use Rattle.std.proofs.Common.{◌≡◌, ℕ, List, Option, Result, sym, subst}
 use Rattle.std.specs.Result.{IfOk, IfErr}
-use Rattle.rtgs_cli_arguments.specs.declared.requests.request.Request.{Request}
+use Rattle.rtgs_cli_arguments.specs.requests.Requests.{JudgedRequest}
 use Rattle.rtgs_cli_lines.specs.declared.failure.Failure.{Failure}
 use Rattle.rtgs_cli_lines.specs.declared.printed.Printed.{Printed}
 use Rattle.rtgs_book_file.specs.OverFile.{OverFile}
 use Rattle.rtgs_cli_files.specs.Touching.{IsOf}
 use Rattle.rtgs_cli.specs.Runs.{file_of, Denies, PrintsFor, Traces}
+use Rattle.rtgs_cli.specs.Writers.{Writer}
 
-module _ {A K U C : Type 0} (file : OverFile K U C) (touched : Traces A U C) {asked other : Request}
+module _ {A K U C : Type 0} (file : OverFile K U C) (touched : Traces A U C) {asked other : JudgedRequest}
     (same : asked ≡ other) where
   pub printed_for : (result : Result Printed Failure) (old new : Option (List ℕ))
       → IfOk result (λ printed. PrintsFor file other touched printed old new)
@@ -17,11 +18,9 @@ module _ {A K U C : Type 0} (file : OverFile K U C) (touched : Traces A U C) {as
       subst (λ request. IfOk result (λ printed. PrintsFor file request touched printed old new))
       (sym same)
 
-  pub denied_for : {O : Type 0} (contents : O → Option (List ℕ)) (result : Result Printed Failure) (out out' : O)
-      → IfErr result (λ why. Denies file contents other touched why out out')
-      → IfErr result (λ why. Denies file contents asked touched why out out')
-  denied_for contents result out out' =
-      subst (λ request. IfErr result (λ why. Denies file contents request touched why out out')) (sym same)
+  pub denied_for : {O : Type 0} (out : Writer O) (result : Result Printed Failure)
+      → IfErr result (Denies file other out touched) → IfErr result (Denies file asked out touched)
+  denied_for out result = subst (λ request. IfErr result (Denies file request out touched)) (sym same)
 
   pub touched_for : (result : Result Printed Failure) (old new : Option (List ℕ))
       → IfOk result (λ printed. PrintsFor file other touched printed old new) → IsOf file (file_of other) touched

@@ -11,13 +11,10 @@ use Rattle.rtgs_money.specs.declared.lexical.Lexical.{Lexical}
 use Rattle.rtgs_book.specs.declared.refusal.Refusal.TheVariants.{OutOfMemory}
 use Rattle.rtgs_cli_arguments.specs.declared.asked.Asked.{Asked}
 use Rattle.rtgs_cli_arguments.specs.declared.asked.Asked.TheVariants.{Run, Refusals}
-use Rattle.rtgs_cli_arguments.specs.requests.Requests.{ReadsRequest}
-use Rattle.rtgs_cli_arguments.specs.declared.requests.words.Words.{Words}
-use Rattle.rtgs_cli_arguments.specs.declared.requests.request.Request.{Request}
+use Rattle.rtgs_cli_arguments.specs.requests.Requests.{JudgedRequest, ReadsRequest, Words}
 use Rattle.rtgs_cli_arguments.specs.declared.requests.request.Request.TheVariants.{Make, Migrate, Submit, Import, Read}
 use Rattle.rtgs_cli_arguments.specs.declared.requests.request.Request.TheVariants.{Serve}
 use Rattle.rtgs_cli_lines.specs.Failures.{failure_line as refusal_line}
-use Rattle.rtgs_cli_lines.specs.SentTo.{IsSentTo}
 use Rattle.rtgs_cli_lines.specs.declared.ended.Ended.{Ended}
 use Rattle.rtgs_cli_lines.specs.declared.ended.Ended.TheVariants as ended
 use Rattle.rtgs_cli_lines.specs.declared.failure.Failure.{Failure}
@@ -36,6 +33,7 @@ use Rattle.rtgs_cli_imports.specs.declared.order_file.OrderFile.{OrderFile}
 use Rattle.rtgs_cli_readings.specs.Readings as readings
 use Rattle.rtgs_cli_serving.specs.Serving.{Serves, IsNotServed}
 use Rattle.rtgs_cli_serving.specs.declared.no_port.NoPort.{NoPort}
+use Rattle.rtgs_cli.specs.Writers.{Writer, Writers, IsKept, IsWritten}
 
 -- help, or the version, and no fault of the command line
 abbrev pub is_help : ErrorKind → Bool
@@ -45,27 +43,24 @@ is_help _ = false
 
 -- What is left on the writers where the command line itself has this kind of answer: help on the first alone, or a
 -- fault of the command line on the second alone. Lack of memory is refused, and can come in place of both.
-abbrev pub IsExplained : {O E : Type 0} → ErrorKind → (O → Option (List ℕ)) → (E → Option (List ℕ)) → Ended → O → O → E
-    → E → Type 0
-IsExplained what contents reported (ended.Printed printed) out out' err err' = ⊥
-IsExplained what contents reported (ended.Helped sent) out out' err err' =
-    (is_help what ≡ true) × ((text : List ℕ) × IsSentTo sent (contents out) (contents out') text) × (err' ≡ err)
-IsExplained what contents reported (ended.Refused failure sent) out out' err err' =
-    (failure ≡ Refused OutOfMemory) × IsSentTo sent (reported err) (reported err') (ended_line (refusal_line failure))
-    × (out' ≡ out)
-IsExplained what contents reported (ended.Misused sent) out out' err err' =
-    (is_help what ≡ false) × (what ≢ kind.OutOfMemory)
-    × ((text : List ℕ) × IsSentTo sent (reported err) (reported err') text)
-    × (out' ≡ out)
+abbrev pub IsExplained : {O E : Type 0} → ErrorKind → Writers O E → Ended → Type 0
+IsExplained what writers (ended.Printed printed) = ⊥
+IsExplained what writers (ended.Helped sent) =
+    (is_help what ≡ true) × ((text : List ℕ) × IsWritten sent writers.out text) × IsKept writers.err
+IsExplained what writers (ended.Refused failure sent) =
+    (failure ≡ Refused OutOfMemory) × IsWritten sent writers.err (ended_line (refusal_line failure))
+    × IsKept writers.out
+IsExplained what writers (ended.Misused sent) =
+    (is_help what ≡ false) × (what ≢ kind.OutOfMemory) × ((text : List ℕ) × IsWritten sent writers.err text)
+    × IsKept writers.out
 
--- what is said of a refusal, or of each, is left on the first writer, as far as that took it
-abbrev pub AreExplained : {O : Type 0} → Option RefusalKind → (O → Option (List ℕ)) → Ended → O → O → Type 0
-AreExplained which contents ends out out' =
-    (sent : Result ⊤ WriterFailed) × (ends ≡ ended.Helped sent)
-    × IsSentTo sent (contents out) (contents out') (explanation which)
+-- what is said of a refusal, or of each, is left on standard output, as far as that took it
+abbrev pub AreExplained : {O : Type 0} → Option RefusalKind → Writer O → Ended → Type 0
+AreExplained which out ends =
+    (sent : Result ⊤ WriterFailed) × (ends ≡ ended.Helped sent) × IsWritten sent out (explanation which)
 
 -- the file that a request names
-abbrev pub file_of : Request → List ℕ
+abbrev pub file_of : JudgedRequest → List ℕ
 file_of (Make file) = file.now
 file_of (Migrate file) = file.now
 file_of (Submit file command) = file.now
@@ -79,7 +74,7 @@ Traces A U C = Touched A U C (Used (Snapshot OrderFile) (Snapshot Port) (Snapsho
 
 module _ {A K U C : Type 0} (book_file : OverFile K U C) where
   -- the run printed what it had to, as far as standard output took it
-  abbrev pub PrintsFor : Request → Traces A U C → Printed → Option (List ℕ) → Option (List ℕ) → Type 0
+  abbrev pub PrintsFor : JudgedRequest → Traces A U C → Printed → Option (List ℕ) → Option (List ℕ) → Type 0
   PrintsFor (Make file) touched printed old new = PrintsText (HasMade book_file touched) printed old new
   PrintsFor (Migrate file) touched printed old new = PrintsText (HasMigrated book_file touched) printed old new
   PrintsFor (Submit file command) touched printed old new =
@@ -92,60 +87,52 @@ module _ {A K U C : Type 0} (book_file : OverFile K U C) where
 
   -- Why a run with this request is refused, and what it leaves on standard output: nothing, or the beginning of a
   -- statement that was refused after some of its rows.
-  abbrev pub Denies : {O : Type 0} → (O → Option (List ℕ)) → Request → Traces A U C → Failure → O → O → Type 0
-  Denies contents (Make file) touched why out out' = IsNoBookMade book_file touched why × (out' ≡ out)
-  Denies contents (Migrate file) touched why out out' = IsNotMigrated book_file touched why × (out' ≡ out)
-  Denies contents (Submit file command) touched why out out' =
-      IsNotAnswered book_file command touched why × (out' ≡ out)
-  Denies contents (Import file sender orders) touched why out out' =
-      IsNotImported book_file sender touched why × (out' ≡ out)
-  Denies contents (Read file reading) touched why out out' =
-      readings.Denies book_file contents reading touched why out out'
-  Denies contents (Serve file port count operator) touched why out out' =
-      IsNotServed book_file touched why × (out' ≡ out)
+  abbrev pub Denies : {O : Type 0} → JudgedRequest → Writer O → Traces A U C → Failure → Type 0
+  Denies (Make file) out touched why = IsNoBookMade book_file touched why × IsKept out
+  Denies (Migrate file) out touched why = IsNotMigrated book_file touched why × IsKept out
+  Denies (Submit file command) out touched why = IsNotAnswered book_file command touched why × IsKept out
+  Denies (Import file sender orders) out touched why = IsNotImported book_file sender touched why × IsKept out
+  Denies (Read file reading) out touched why =
+      readings.Denies book_file out.contents reading touched why out.before out.after
+  Denies (Serve file port count operator) out touched why = IsNotServed book_file touched why × IsKept out
 
   -- the words spell a request for which this was printed, and whose file was touched
-  abbrev pub IsCarriedOut : Words → Traces A U C → Printed → Option (List ℕ) → Option (List ℕ) → Type 0
-  IsCarriedOut words touched printed old new =
-      (request : Request) × ReadsRequest words (Ok request) × PrintsFor request touched printed old new
+  abbrev pub IsCarriedOut : {O : Type 0} → Words → Writer O → Traces A U C → Printed → Type 0
+  IsCarriedOut words out touched printed =
+      (request : JudgedRequest) × ReadsRequest words (Ok request)
+      × PrintsFor request touched printed (out.contents out.before) (out.contents out.after)
       × IsOf book_file (file_of request) touched
 
   -- a word is not of its form, or the request that the words spell is refused, and its file was touched
-  abbrev pub IsDenied : {O : Type 0} → (O → Option (List ℕ)) → Words → Traces A U C → Failure → O → O → Type 0
-  IsDenied contents words touched why out out' =
-      ((form : Lexical) × ReadsRequest words (Err form) × (why ≡ Form form) × IsUntouched book_file touched × (out'
-      ≡ out))
-      ⊎ ((request : Request) × ReadsRequest words (Ok request) × Denies contents request touched why out out'
+  abbrev pub IsDenied : {O : Type 0} → Words → Writer O → Traces A U C → Failure → Type 0
+  IsDenied words out touched why =
+      ((form : Lexical) × ReadsRequest words (Err form) × (why ≡ Form form) × IsUntouched book_file touched
+      × IsKept out)
+      ⊎ ((request : JudgedRequest) × ReadsRequest words (Ok request) × Denies request out touched why
       × IsOf book_file (file_of request) touched)
 
   -- What a run that was given these words did, by how it ended, and leaves on its writers: what was printed for the
   -- request that they spell stands on the first alone, and why it was refused on the second alone. Rows of a statement
   -- that was refused behind them stay on the first.
-  abbrev pub EndsFor : {O E : Type 0} → Words → (O → Option (List ℕ)) → (E → Option (List ℕ)) → Ended
-      → Traces A U C → O → O → E → E → Type 0
-  EndsFor words contents reported (ended.Printed printed) touched out out' err err' =
-      IsCarriedOut words touched printed (contents out) (contents out') × (err' ≡ err)
-  EndsFor words contents reported (ended.Refused failure sent) touched out out' err err' =
-      IsSentTo sent (reported err) (reported err') (ended_line (refusal_line failure))
-      × IsDenied contents words touched failure out out'
-  EndsFor words contents reported (ended.Helped sent) touched out out' err err' = ⊥
-  EndsFor words contents reported (ended.Misused sent) touched out out' err err' = ⊥
+  abbrev pub EndsFor : {O E : Type 0} → Words → Writers O E → Ended → Traces A U C → Type 0
+  EndsFor words writers (ended.Printed printed) touched =
+      IsCarriedOut words writers.out touched printed × IsKept writers.err
+  EndsFor words writers (ended.Refused failure sent) touched =
+      IsWritten sent writers.err (ended_line (refusal_line failure)) × IsDenied words writers.out touched failure
+  EndsFor words writers (ended.Helped sent) touched = ⊥
+  EndsFor words writers (ended.Misused sent) touched = ⊥
 
   -- The same of a run whose command line was read so: the words of a request, the refusals to explain, none, or what
   -- the command line itself has to say.
-  abbrev pub EndsAfter : {O E : Type 0} → Result (Option Asked) Error → (O → Option (List ℕ)) → (E → Option (List ℕ))
-      → Ended → Traces A U C → O → O → E → E → Type 0
-  EndsAfter (Ok (Some (Run words))) contents reported ends touched out out' err err' =
-      EndsFor words contents reported ends touched out out' err err'
-  EndsAfter (Ok (Some (Refusals which))) contents reported ends touched out out' err err' =
-      AreExplained which contents ends out out' × (err' ≡ err) × IsUntouched book_file touched
-  EndsAfter (Ok None) contents reported ends touched out out' err err' =
-      (ends ≡ ended.Misused (Ok _)) × (out' ≡ out) × (err' ≡ err) × IsUntouched book_file touched
-  EndsAfter (Err error) contents reported ends touched out out' err err' =
-      IsExplained (kind_of error) contents reported ends out out' err err' × IsUntouched book_file touched
+  abbrev pub EndsAfter : {O E : Type 0} → Result (Option Asked) Error → Writers O E → Ended → Traces A U C → Type 0
+  EndsAfter (Ok (Some (Run words))) writers ends touched = EndsFor words writers ends touched
+  EndsAfter (Ok (Some (Refusals which))) writers ends touched =
+      AreExplained which writers.out ends × IsKept writers.err × IsUntouched book_file touched
+  EndsAfter (Ok None) writers ends touched =
+      (ends ≡ ended.Misused (Ok _)) × IsKept writers.out × IsKept writers.err × IsUntouched book_file touched
+  EndsAfter (Err error) writers ends touched =
+      IsExplained (kind_of error) writers ends × IsUntouched book_file touched
 
   -- the same of a run whose command line was read in some way
-  abbrev pub Ends : {O E : Type 0} → (O → Option (List ℕ)) → (E → Option (List ℕ)) → Ended
-      → Traces A U C → O → O → E → E → Type 0
-  Ends contents reported ends touched out out' err err' =
-      (read : Result (Option Asked) Error) × EndsAfter read contents reported ends touched out out' err err'
+  abbrev pub Ends : {O E : Type 0} → Writers O E → Ended → Traces A U C → Type 0
+  Ends writers ends touched = (read : Result (Option Asked) Error) × EndsAfter read writers ends touched

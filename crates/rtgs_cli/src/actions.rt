@@ -5,7 +5,7 @@ ghost use Rattle.rtgs_cli_files.specs.Touching.{IsOf};
 ghost use Rattle.rtgs_cli.specs.Runs.{file_of, Denies, PrintsFor};
 
 use rtgs_book_file::BookFile;
-use rtgs_cli_arguments::Request;
+use rtgs_cli_arguments::{JudgedRequest, Request};
 use rtgs_cli_commands::{answer, make_book, migrate_book};
 use rtgs_cli_files::{Acted, Used};
 use rtgs_cli_imports::{OrderFile, import};
@@ -23,15 +23,15 @@ pub type RunUsed = Used<Snapshot<OrderFile>, Snapshot<Port>, Snapshot<NoPort>>;
 /// statement before the one that was not read.
 pub fn act<B: BookFile, O: Write>(
     rt: &HostRuntime,
-    request: &Request<'_>,
+    request: &JudgedRequest<'_>,
     start: B,
     out: &mut O,
 ) -> Acted<B, RunUsed>
     ensures printed { IfOk result.0 (λ printed. PrintsFor
         (over ⟦<B::Kept as Keeper>⟧ B.facts) request.now result.1 printed
         (O.contents out.old) (O.contents out.new)) }
-    ensures refused { IfErr result.0 (λ why. Denies
-        (over ⟦<B::Kept as Keeper>⟧ B.facts) O.contents request.now result.1 why out.old out.new) }
+    ensures refused { IfErr result.0 (Denies (over ⟦<B::Kept as Keeper>⟧ B.facts) request.now
+        (record { contents = O.contents; before = out.old; after = out.new }) result.1) }
     ensures at { IsOf (over ⟦<B::Kept as Keeper>⟧ B.facts) (file_of request.now) result.1 }
 {
     match *request {

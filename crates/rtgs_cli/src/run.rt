@@ -13,7 +13,7 @@ use crate::actions::{RunUsed, act};
 use clap::Error;
 use clap::error::ErrorKind;
 use rtgs_book_file::{BookFile, FileKeeper};
-use rtgs_cli_arguments::{Asked, Request, Words, read_words};
+use rtgs_cli_arguments::{Asked, Words, read_request, read_words};
 use rtgs_cli_files::{Acted, Touched, Traces};
 use rtgs_cli_lines::{Ended, Failure, Printed};
 use rtgs_keeper::Keeper;
@@ -27,7 +27,10 @@ use std::io::Write;
 /// Says what the command line itself has to say: help on standard output, a fault on standard error. Where memory was
 /// wanting, that is refused.
 fn explain<O: Write, E: Write>(alloc: Global, error: &Error, out: &mut O, err: &mut E) -> Ended
-    ensures { IsExplained (kind_of error.now) O.contents E.contents result out.old out.new err.old err.new }
+    ensures { IsExplained (kind_of error.now) (record {
+      out = record { contents = O.contents; before = out.old; after = out.new };
+      err = record { contents = E.contents; before = err.old; after = err.new };
+    }) result }
 {
     if error.kind() == ErrorKind::OutOfMemory {
         return refused(Failure::from(AllocError), err);
@@ -41,7 +44,7 @@ fn explain<O: Write, E: Write>(alloc: Global, error: &Error, out: &mut O, err: &
 
 // Says what a refusal means, or each, on standard output.
 fn explain_refusals<O: Write>(which: Option<RefusalKind>, out: &mut O) -> Ended
-    ensures { AreExplained which O.contents result out.old out.new }
+    ensures { AreExplained which (record { contents = O.contents; before = out.old; after = out.new }) result }
 {
     match print_texts(which, out) {
         Ok(()) => Ended::Helped(Ok(())),
@@ -64,13 +67,12 @@ fn carry_out<B: BookFile, O: Write>(
     start: B,
     out: &mut O,
 ) -> Acted<B, RunUsed>
-    ensures printed { IfOk result.0 (λ printed. IsCarriedOut
-        (over ⟦<B::Kept as Keeper>⟧ B.facts) words.now result.1 printed
-        (O.contents out.old) (O.contents out.new)) }
-    ensures refused { IfErr result.0 (λ why. IsDenied
-        (over ⟦<B::Kept as Keeper>⟧ B.facts) O.contents words.now result.1 why out.old out.new) }
+    ensures printed { IfOk result.0 (IsCarriedOut (over ⟦<B::Kept as Keeper>⟧ B.facts) words.now
+        (record { contents = O.contents; before = out.old; after = out.new }) result.1) }
+    ensures refused { IfErr result.0 (IsDenied (over ⟦<B::Kept as Keeper>⟧ B.facts) words.now
+        (record { contents = O.contents; before = out.old; after = out.new }) result.1) }
 {
-    match Request::read(words) {
+    match read_request(words) {
         Ok(request) => act(rt, &request, start, out),
         Err(form) => (Err(Failure::Form(form)), Touched::Nothing(start)),
     }
@@ -84,8 +86,10 @@ fn end<B: BookFile, O: Write, E: Write>(
     out: &mut O,
     err: &mut E,
 ) -> (Ended, Traces<B, RunUsed>)
-    ensures { EndsAfter (over ⟦<B::Kept as Keeper>⟧ B.facts)
-        read.entry O.contents E.contents result.0 result.1 out.old out.new err.old err.new }
+    ensures { EndsAfter (over ⟦<B::Kept as Keeper>⟧ B.facts) read.entry (record {
+      out = record { contents = O.contents; before = out.old; after = out.new };
+      err = record { contents = E.contents; before = err.old; after = err.new };
+    }) result.0 result.1 }
 {
     match read {
         Ok(Some(Asked::Run(words))) => {
@@ -117,8 +121,10 @@ fn run_over<B: BookFile, O: Write, E: Write>(
     out: &mut O,
     err: &mut E,
 ) -> (Ended, Traces<B, RunUsed>)
-    ensures { Ends (over ⟦<B::Kept as Keeper>⟧ B.facts)
-        O.contents E.contents result.0 result.1 out.old out.new err.old err.new }
+    ensures { Ends (over ⟦<B::Kept as Keeper>⟧ B.facts) (record {
+      out = record { contents = O.contents; before = out.old; after = out.new };
+      err = record { contents = E.contents; before = err.old; after = err.new };
+    }) result.0 result.1 }
 {
     end(rt, read_words(rt.alloc(), words), start, out, err)
 }
@@ -133,7 +139,10 @@ pub fn run_words<S: Start, O: Write, E: Write>(
     err: &mut E,
 ) -> (Ended, Traces<S, RunUsed>)
     ensures { Ends (over ⟦<FileKeeper<S> as Keeper>⟧ (facts_from ⟦<FileKeeper<S> as Keeper>⟧ S.Start
-        (λ keeper. keeper.conn))) O.contents E.contents result.0 result.1 out.old out.new err.old err.new }
+        (λ keeper. keeper.conn))) (record {
+          out = record { contents = O.contents; before = out.old; after = out.new };
+          err = record { contents = E.contents; before = err.old; after = err.new };
+        }) result.0 result.1 }
 {
     run_over(rt, words, start, out, err)
 }

@@ -10,9 +10,9 @@ use Rattle.rtgs_cli_arguments.specs.declared.requests.command_words.CommandWords
 use Rattle.rtgs_cli_arguments.specs.declared.requests.reading_words.ReadingWords.{ReadingWords}
 use Rattle.rtgs_cli_arguments.specs.declared.requests.reading_words.ReadingWords.TheVariants.{Order, Account, Accounts}
 use Rattle.rtgs_cli_arguments.specs.declared.requests.reading_words.ReadingWords.TheVariants.{Queue, Statement, Report}
-use Rattle.rtgs_cli_arguments.specs.declared.requests.words.Words.{Words}
-use Rattle.rtgs_cli_arguments.specs.declared.requests.words.Words.TheVariants.{Init, Migrate, Submit, Import, Read}
-use Rattle.rtgs_cli_arguments.specs.declared.requests.words.Words.TheVariants.{Serve}
+use Rattle.rtgs_cli_arguments.specs.declared.requests.request.Request.TheVariants.{Make, Migrate, Submit, Import, Read}
+use Rattle.rtgs_cli_arguments.specs.declared.requests.request.Request.TheVariants.{Serve}
+use Rattle.rtgs_cli_arguments.specs.requests.Requests.{Words}
 use Rattle.rtgs_cli_arguments.specs.Asked.{AreWordsOfRun, IsCommand, IsNumber, AreWordsOfReading}
 
 -- two names differ where a look at their bytes says so
@@ -41,10 +41,10 @@ no_reading given (Report date) asked = differ _ (codes "report") refl asked.0
 pub no_server : (given : List Row)
     → ((n : ℕ) → ¬ IsNumber 16 given (codes "port") n) ⊎ ((n : ℕ) → ¬ IsNumber 32 given (codes "count") n)
     → (words : Words) → ¬ AreWordsOfRun (codes "serve") given words
-no_server given missing (Init file) asked = differ _ (codes "init") refl asked.0
+no_server given missing (Make file) asked = differ _ (codes "init") refl asked.0
 no_server given missing (Migrate file) asked = differ _ (codes "migrate") refl asked.0
 no_server given missing (Submit file command) asked = no_command given command asked.1
-no_server given missing (Import file code orders) asked = differ _ (codes "import") refl asked.0
+no_server given missing (Import file sender orders) asked = differ _ (codes "import") refl asked.0
 no_server given missing (Read file reading) asked = no_reading given reading asked.1
-no_server given (inl none) (Serve file port count key) asked = none port asked.2
-no_server given (inr none) (Serve file port count key) asked = none count asked.3
+no_server given (inl none) (Serve file port count operator) asked = none port asked.2
+no_server given (inr none) (Serve file port count operator) asked = none count asked.3

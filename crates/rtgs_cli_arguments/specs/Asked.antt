@@ -14,9 +14,9 @@ use Rattle.rtgs_cli_arguments.specs.declared.requests.command_words.CommandWords
 use Rattle.rtgs_cli_arguments.specs.declared.requests.reading_words.ReadingWords.{ReadingWords}
 use Rattle.rtgs_cli_arguments.specs.declared.requests.reading_words.ReadingWords.TheVariants.{Order, Account, Accounts}
 use Rattle.rtgs_cli_arguments.specs.declared.requests.reading_words.ReadingWords.TheVariants.{Queue, Statement, Report}
-use Rattle.rtgs_cli_arguments.specs.declared.requests.words.Words.{Words}
-use Rattle.rtgs_cli_arguments.specs.declared.requests.words.Words.TheVariants.{Init, Migrate, Submit, Import, Read}
-use Rattle.rtgs_cli_arguments.specs.declared.requests.words.Words.TheVariants.{Serve}
+use Rattle.rtgs_cli_arguments.specs.declared.requests.request.Request.TheVariants.{Make, Migrate, Submit, Import, Read}
+use Rattle.rtgs_cli_arguments.specs.declared.requests.request.Request.TheVariants.{Serve}
+use Rattle.rtgs_cli_arguments.specs.requests.Requests.{Words}
 
 -- the word that was given for an argument, or no characters
 abbrev pub IsWord : List Row → Text → Bor Text → Type 0
@@ -64,16 +64,16 @@ AreWordsOfReading called given (Report date) = (called ≡ codes "report") × Is
 
 -- the words of a run, by the name of its subcommand
 abbrev pub AreWordsOfRun : Text → List Row → Words → Type 0
-AreWordsOfRun called given (Init file) = (called ≡ codes "init") × IsWord given (codes "file") file
+AreWordsOfRun called given (Make file) = (called ≡ codes "init") × IsWord given (codes "file") file
 AreWordsOfRun called given (Migrate file) = (called ≡ codes "migrate") × IsWord given (codes "file") file
 AreWordsOfRun called given (Submit file command) = IsWord given (codes "file") file × IsCommand called given command
-AreWordsOfRun called given (Import file code orders) = (called ≡ codes "import") × IsWord given (codes "file") file
-    × IsWord given (codes "code") code × IsWord given (codes "orders") orders
+AreWordsOfRun called given (Import file sender orders) = (called ≡ codes "import") × IsWord given (codes "file") file
+    × IsWord given (codes "code") sender × IsWord given (codes "orders") orders
 AreWordsOfRun called given (Read file reading) = IsWord given (codes "file") file × AreWordsOfReading called given
     reading
-AreWordsOfRun called given (Serve file port count key) = (called ≡ codes "serve") × IsWord given (codes "file") file
+AreWordsOfRun called given (Serve file port count operator) = (called ≡ codes "serve") × IsWord given (codes "file") file
     × IsNumber 16 given (codes "port") port × IsNumber 32 given (codes "count") count
-    × IsWord given (codes "operator-key") key
+    × IsWord given (codes "operator-key") operator
 
 -- the words that are asked for, or none where there are none
 abbrev pub IsChosen : {W : Type 0} → (W → Type 0) → Option W → Type 0

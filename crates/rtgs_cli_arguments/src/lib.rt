@@ -23,7 +23,9 @@ mod serving;
 mod version;
 
 pub use crate::asked::Asked;
-pub use crate::requests::{CommandWords, ReadingWords, Request, Words};
+pub use crate::requests::{
+    CommandWords, JudgedRequest, ReadingWords, Request, Words, read_request,
+};
 
 /// The book's file, which each subcommand takes first.
 fn file_argument<'a>(alloc: Global) -> Arg<'a>
@@ -215,13 +217,13 @@ fn words_of<'a>(name: &str, given: &ArgMatches<'a>) -> Option<Words<'a>>
 {
     let file = file_word(given);
     match name {
-        "init" => Some(Words::Init { file }),
-        "migrate" => Some(Words::Migrate { file }),
+        "init" => Some(Request::Make { file }),
+        "migrate" => Some(Request::Migrate { file }),
         "import" => Some(orders::import_words(given)),
         "serve" => serving::serve_words(given),
         _ => match reading_words(name, given) {
-            Some(reading) => Some(Words::Read { file, reading }),
-            None => Some(Words::Submit {
+            Some(reading) => Some(Request::Read { file, reading }),
+            None => Some(Request::Submit {
                 file,
                 command: command_words(name, given)?,
             }),

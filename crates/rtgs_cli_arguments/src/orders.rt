@@ -4,7 +4,7 @@ ghost use Rattle.clap.specs.Words.{found_of, rows_of};
 ghost use Rattle.rtgs_cli_arguments.specs.Asked.{AreWordsOfRun, IsCommand};
 ghost use Rattle.rtgs_cli_arguments.specs.CommandLine as line;
 
-use crate::requests::{CommandWords, Words};
+use crate::requests::{CommandWords, Request, Words};
 use crate::{code_argument, file_argument, file_word, reference_argument, word, word_argument};
 use clap::{ArgMatches, Command};
 use std::alloc::{AllocError, Global};
@@ -25,9 +25,9 @@ pub fn import_command<'a>(alloc: Global) -> Result<Command<'a>, AllocError>
 pub fn import_words<'a>(given: &ArgMatches<'a>) -> Words<'a>
     ensures { AreWordsOfRun (codes "import") (rows_of (found_of given.now)) result }
 {
-    Words::Import {
+    Request::Import {
         file: file_word(given),
-        code: word(given, "code"),
+        sender: word(given, "code"),
         orders: word(given, "orders"),
     }
 }

@@ -4,7 +4,7 @@ ghost use Rattle.clap.specs.Words.{found_of, rows_of, rule_of};
 ghost use Rattle.rtgs_cli_arguments.specs.Asked.{AreWordsOfRun, IsChosen, IsNumber};
 ghost use Rattle.rtgs_cli_arguments.specs.CommandLine as line;
 
-use crate::requests::Words;
+use crate::requests::{Request, Words};
 use crate::{file_argument, file_word, word};
 use clap::{Arg, ArgAction, ArgMatches, Command, value_parser};
 use std::alloc::{AllocError, Global};
@@ -92,10 +92,10 @@ fn count_number(given: &ArgMatches<'_>) -> Option<u32>
 pub fn serve_words<'a>(given: &ArgMatches<'a>) -> Option<Words<'a>>
     ensures { IsChosen (AreWordsOfRun (codes "serve") (rows_of (found_of given.now))) result }
 {
-    Some(Words::Serve {
+    Some(Request::Serve {
         file: file_word(given),
         port: port_number(given)?,
         count: count_number(given)?,
-        key: word(given, "operator-key"),
+        operator: word(given, "operator-key"),
     })
 }

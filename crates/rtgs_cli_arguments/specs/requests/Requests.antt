@@ -1,6 +1,8 @@
 -- What a run asks of a book.
 use Rattle.std.specs.Prelude.{◌≡◌, Result, Ok}
+use Rattle.std.specs.Borrow.{Bor}
 use Rattle.std.specs.Result.{result_map_both}
+use Rattle.clap.specs.Words.{Text}
 use Rattle.rtgs_money.specs.declared.lexical.Lexical.{Lexical}
 use Rattle.rtgs_book.specs.declared.command.Command.{Command}
 use Rattle.rtgs_book.specs.declared.command.Command.TheVariants as command
@@ -13,14 +15,20 @@ use Rattle.rtgs_cli_arguments.specs.declared.requests.command_words.CommandWords
 use Rattle.rtgs_cli_arguments.specs.declared.requests.reading_words.ReadingWords.{ReadingWords}
 use Rattle.rtgs_cli_arguments.specs.declared.requests.reading_words.ReadingWords.TheVariants.{Order, Account, Accounts}
 use Rattle.rtgs_cli_arguments.specs.declared.requests.reading_words.ReadingWords.TheVariants.{Queue, Statement, Report}
-use Rattle.rtgs_cli_arguments.specs.declared.requests.words.Words.{Words}
-use Rattle.rtgs_cli_arguments.specs.declared.requests.words.Words.TheVariants as words
 use Rattle.rtgs_cli_arguments.specs.declared.requests.request.Request.{Request}
 use Rattle.rtgs_cli_arguments.specs.declared.requests.request.Request.TheVariants.{Make, Migrate, Submit, Import, Read}
 use Rattle.rtgs_cli_arguments.specs.declared.requests.request.Request.TheVariants.{Serve}
 use Rattle.rtgs_cli_arguments.specs.requests.Words.{ReadsAdd, ReadsCode, ReadsCredit, ReadsPost, ReadsDate, ReadsDay}
 use Rattle.rtgs_cli_arguments.specs.requests.Words.{opens_day}
 use Rattle.rtgs_cli_arguments.specs.requests.Words.{ReadsKey, ReadsOrderName, ReadsStatement}
+
+-- a request in words that have not been judged
+abbrev pub Words : Type 0
+Words = Request CommandWords ReadingWords (Bor Text) (Bor Text)
+
+-- a request, each word of which was in its form: of the operator's key the digest
+abbrev pub JudgedRequest : Type 0
+JudgedRequest = Request Command Reading Text Text
 
 -- What is read like this is made into the result. Where a word is not of its form, that is the result.
 abbrev pub IsMadeOf : {A B : Type 0} → (Result A Lexical → Type 0) → (A → B) → Result B Lexical → Type 0
@@ -51,12 +59,12 @@ ReadsReading (Statement code date) result = IsMadeOf (ReadsStatement code.now da
 ReadsReading (Report date) result = IsMadeOf (ReadsDate date.now) (λ day. reading.Report day) result
 
 -- what the words ask for, or the refusal of the first word that is not of its form, and nothing else
-abbrev pub ReadsRequest : Words → Result Request Lexical → Type 0
-ReadsRequest (words.Init file) result = result ≡ Ok (Make file)
-ReadsRequest (words.Migrate file) result = result ≡ Ok (Migrate file)
-ReadsRequest (words.Submit file spelt) result = IsMadeOf (ReadsCommand spelt) (λ c. Submit file c) result
-ReadsRequest (words.Import file code orders) result = IsMadeOf (ReadsCode code.now) (λ sender. Import file sender
+abbrev pub ReadsRequest : Words → Result JudgedRequest Lexical → Type 0
+ReadsRequest (Make file) result = result ≡ Ok (Make file)
+ReadsRequest (Migrate file) result = result ≡ Ok (Migrate file)
+ReadsRequest (Submit file spelt) result = IsMadeOf (ReadsCommand spelt) (λ c. Submit file c) result
+ReadsRequest (Import file sender orders) result = IsMadeOf (ReadsCode sender.now) (λ sender. Import file sender
     orders) result
-ReadsRequest (words.Read file spelt) result = IsMadeOf (ReadsReading spelt) (λ reading. Read file reading) result
-ReadsRequest (words.Serve file port count key) result = IsMadeOf (ReadsKey key.now)
+ReadsRequest (Read file spelt) result = IsMadeOf (ReadsReading spelt) (λ reading. Read file reading) result
+ReadsRequest (Serve file port count operator) result = IsMadeOf (ReadsKey operator.now)
     (λ operator. Serve file port count operator) result

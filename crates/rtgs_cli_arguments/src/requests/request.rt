@@ -1,14 +1,14 @@
-//! A run's request, each word in its form.
-ghost use Rattle.std.specs.Prelude.{◌≡◌};
+//! A request to a run.
 
-use crate::requests::spelling::{read_code, read_key};
-use crate::requests::words::Words;
+use crate::requests::command_words::CommandWords;
+use crate::requests::reading_words::ReadingWords;
 use rtgs_book::{Command, Reading};
-use rtgs_money::{Code, KeyDigest, Lexical};
+use rtgs_money::{Code, KeyDigest};
 
-/// What a run is to do with the book in a file.
+/// What a run is to do with the book in a file. `C` is what stands for a command, `R` for a reading, `P` for a
+/// participant, and `K` for the operator's key.
 #[derive(Clone, Copy, Debug)]
-pub enum Request<'a> {
+pub enum Request<'a, C, R, P, K> {
     /// To make it.
     Make {
         file: &'a str,
@@ -20,68 +20,30 @@ pub enum Request<'a> {
     /// To give its desk a command.
     Submit {
         file: &'a str,
-        command: Command,
+        command: C,
     },
     /// To submit a participant's file of orders.
     Import {
         file: &'a str,
-        sender: Code,
+        sender: P,
         orders: &'a str,
     },
     /// To show what its desk tells.
     Read {
         file: &'a str,
-        reading: Reading,
+        reading: R,
     },
-    /// To serve so many connections to its desk on a port, one after another. The operator's key has this digest.
+    /// To serve so many connections to its desk on a port, one after another.
     Serve {
         file: &'a str,
         port: u16,
         count: u32,
-        operator: KeyDigest,
+        operator: K,
     },
 }
 
-impl<'a> Request<'a> {
-    ghost use Rattle.rtgs_cli_arguments.specs.requests.Requests.{ReadsRequest};
+/// A request in words that have not been judged.
+pub type Words<'a> = Request<'a, CommandWords<'a>, ReadingWords<'a>, &'a str, &'a str>;
 
-    /// The request, or the refusal of the first word, from the left, that is not of its form.
-    pub fn read(words: &Words<'a>) -> Result<Request<'a>, Lexical>
-        ensures { ReadsRequest words.now result }
-    {
-        match *words {
-            Words::Init { file } => Ok(Request::Make { file }),
-            Words::Migrate { file } => Ok(Request::Migrate { file }),
-            Words::Submit { file, command } => {
-                let command = command.read()?;
-                Ok(Request::Submit { file, command })
-            }
-            Words::Import { file, code, orders } => {
-                let sender = read_code(code)?;
-                Ok(Request::Import {
-                    file,
-                    sender,
-                    orders,
-                })
-            }
-            Words::Read { file, reading } => {
-                let reading = reading.read()?;
-                Ok(Request::Read { file, reading })
-            }
-            Words::Serve {
-                file,
-                port,
-                count,
-                key,
-            } => {
-                let operator = read_key(key)?;
-                Ok(Request::Serve {
-                    file,
-                    port,
-                    count,
-                    operator,
-                })
-            }
-        }
-    }
-}
+/// A request, each word of which was in its form. The operator's key has this digest.
+pub type JudgedRequest<'a> = Request<'a, Command, Reading, Code, KeyDigest>;
