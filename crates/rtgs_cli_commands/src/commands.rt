@@ -15,7 +15,7 @@ ghost use Rattle.rtgs_cli_lines.specs.Texts.{Prints};
 
 use rtgs_book::{Command, Refusal, WholeAnswer};
 use rtgs_book_file::BookFile;
-use rtgs_cli_files::{Acted, Finished, Touched, Used, close_book, failure_of_refused};
+use rtgs_cli_files::{Acted, Finished, Touched, Used, close_book, refused};
 use rtgs_cli_lines::{Done, Failure, Printed};
 use rtgs_desk::Desk;
 use rtgs_keeper::Keeper;
@@ -37,10 +37,7 @@ pub fn make_book<B: BookFile, O: Write, F, P, N>(
 {
     match start.make(rt, file) {
         Ok(made) => (Ok(say(Done::Made, out)), Touched::Book(made, Used::Nothing)),
-        Err(unmade) => (
-            Err(failure_of_refused::<B>(&unmade)),
-            Touched::Refused(unmade),
-        ),
+        Err(unmade) => refused(unmade),
     }
 }
 
@@ -63,10 +60,7 @@ pub fn migrate_book<B: BookFile, O: Write, F, P, N>(
             Ok(say(migration(wrote), out)),
             Touched::Book(migrated, Used::Nothing),
         ),
-        Err(unmigrated) => (
-            Err(failure_of_refused::<B>(&unmigrated)),
-            Touched::Refused(unmigrated),
-        ),
+        Err(unmigrated) => refused(unmigrated),
     }
 }
 
@@ -87,10 +81,7 @@ pub fn answer<B: BookFile, O: Write, F, P, N>(
 {
     match close_book::<B, _>(submit(rt, file, command, start)) {
         Ok((closed, reply)) => (print(reply, out), Touched::Book(closed, Used::Nothing)),
-        Err(unopened) => (
-            Err(failure_of_refused::<B>(&unopened)),
-            Touched::Refused(unopened),
-        ),
+        Err(unopened) => refused(unopened),
     }
 }
 

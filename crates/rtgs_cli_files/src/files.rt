@@ -35,12 +35,12 @@ pub fn close_book<B: BookFile, T>(finished: Finished<B, T>) -> Closed<B, T>
     }
 }
 
-/// Why a run is refused over whose file no desk was opened, in whose file no book was made, or whose tables were not
-/// brought to the newest version.
-pub fn failure_of_refused<B: BookFile>(refused: &B::Refused) -> Failure
-    ensures { result ≡ failure_of_file (B.facts.fault_of refused.now) }
+/// How a run ends whose file was refused: with what refused it, and the file.
+pub fn refused<B: BookFile, M>(file: B::Refused) -> Acted<B, M>
+    ensures { result ≡ (Err (failure_of_file (B.facts.fault_of file)), Touched.Refused file) }
 {
-    failure_of(B::fault(refused))
+    let failure = failure_of(B::fault(&file));
+    (Err(failure), Touched::Refused(file))
 }
 
 // The failure that a fault of a book's file is reported as.

@@ -6,6 +6,6 @@ mod files;
 mod touched;
 mod used;
 
-pub use crate::files::{Acted, Closed, Finished, Traces, close_book, failure_of_refused};
+pub use crate::files::{Acted, Closed, Finished, Traces, close_book, refused};
 pub use crate::touched::Touched;
 pub use crate::used::Used;

@@ -18,7 +18,7 @@ use crate::batches::{print_results, submit_orders};
 use crate::order_file::OrderFile;
 use rtgs_book::NewOrder;
 use rtgs_book_file::BookFile;
-use rtgs_cli_files::{Acted, Finished, Touched, Used, close_book, failure_of_refused};
+use rtgs_cli_files::{Acted, Finished, Touched, Used, close_book, refused};
 use rtgs_cli_lines::{Failure, Printed};
 use rtgs_desk::Desk;
 use rtgs_keeper::Keeper;
@@ -56,10 +56,7 @@ pub fn import<B: BookFile, O: Write, P, N>(
                 Touched::Book(closed, Used::Orders(read)),
             )
         }
-        Err(unopened) => (
-            Err(failure_of_refused::<B>(&unopened)),
-            Touched::Refused(unopened),
-        ),
+        Err(unopened) => refused(unopened),
     }
 }
 

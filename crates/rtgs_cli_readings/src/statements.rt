@@ -10,7 +10,7 @@ ghost use Rattle.rtgs_cli_readings.specs.Outcomes.{outcome_of_text};
 ghost use Rattle.rtgs_cli_readings.specs.Readings.{Denies, IsWritten, Shows};
 
 use rtgs_book_file::BookFile;
-use rtgs_cli_files::{Acted, Finished, Touched, Used, close_book, failure_of_refused};
+use rtgs_cli_files::{Acted, Finished, Touched, Used, close_book, refused};
 use rtgs_cli_lines::{Failure, Printed};
 use rtgs_http_bodies::write_statement;
 use rtgs_keeper::Keeper;
@@ -38,10 +38,7 @@ pub fn show_statement<B: BookFile, O: Write, F, P, N>(
 {
     match close_book::<B, _>(write(rt, file, &code, date, start, out)) {
         Ok((closed, written)) => (outcome(written), Touched::Book(closed, Used::Nothing)),
-        Err(unopened) => (
-            Err(failure_of_refused::<B>(&unopened)),
-            Touched::Refused(unopened),
-        ),
+        Err(unopened) => refused(unopened),
     }
 }
 

@@ -10,7 +10,7 @@ ghost use Rattle.rtgs_cli_readings.specs.Readings.{Denies, HasRead, IsNotRead, I
 use crate::statements::show_statement;
 use rtgs_book::{Reading, Refusal};
 use rtgs_book_file::BookFile;
-use rtgs_cli_files::{Acted, Finished, Touched, Used, close_book, failure_of_refused};
+use rtgs_cli_files::{Acted, Finished, Touched, Used, close_book, refused};
 use rtgs_cli_lines::{Failure, Printed};
 use rtgs_http_bodies::text_of;
 use rtgs_keeper::Keeper;
@@ -56,10 +56,7 @@ fn show_text<B: BookFile, O: Write, F, P, N>(
 {
     match close_book::<B, _>(read(rt, file, reading, start)) {
         Ok((closed, read)) => (print_read(read, out), Touched::Book(closed, Used::Nothing)),
-        Err(unopened) => (
-            Err(failure_of_refused::<B>(&unopened)),
-            Touched::Refused(unopened),
-        ),
+        Err(unopened) => refused(unopened),
     }
 }
 

@@ -14,7 +14,7 @@ ghost use Rattle.rtgs_cli_serving.specs.Serving.{server_text, stop_of_desk, Take
 use crate::no_port::NoPort;
 use rtgs_book::Refusal;
 use rtgs_book_file::BookFile;
-use rtgs_cli_files::{Acted, Finished, Touched, Used, close_book, failure_of_refused};
+use rtgs_cli_files::{Acted, Finished, Touched, Used, close_book, refused};
 use rtgs_cli_lines::{Done, Failure, Printed};
 use rtgs_desk::Desk;
 use rtgs_http_server::laws::a_desk_at_rest_works_for_all;
@@ -51,10 +51,7 @@ pub fn serve<B: BookFile, O: Write, F>(
             let (served, used) = done;
             (served, Touched::Book(closed, used))
         }
-        Err(unopened) => (
-            Err(failure_of_refused::<B>(&unopened)),
-            Touched::Refused(unopened),
-        ),
+        Err(unopened) => refused(unopened),
     }
 }
 

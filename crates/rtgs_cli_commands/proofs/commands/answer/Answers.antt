@@ -41,12 +41,12 @@ returns-in-Ok-clause-refused g c =
     )) c.print.ensures.refused
 
 pub returns-in-Err-clause-refused : goal.returns-in-Err-clause-refused
-returns-in-Err-clause-refused g c = inl (
+returns-in-Err-clause-refused g c = rw c.refused.ensures (inl (
   c.in-Err.unopened,
   refl,
   IfErr-at_err _ c.in-Err.ensures.unopened c.submit.ensures.unopened,
-  c.failure_of_refused.ensures,
-)
+  refl,
+))
 
 pub returns-in-Ok-clause-at : goal.returns-in-Ok-clause-at
 returns-in-Ok-clause-at g c =
@@ -54,4 +54,4 @@ returns-in-Ok-clause-at g c =
     named _ (IfOk-at_ok (λ p. string_bytes p.0.lock.locked.name ≡ _) is c.submit.ensures.at)
 
 pub returns-in-Err-clause-at : goal.returns-in-Err-clause-at
-returns-in-Err-clause-at g c = IfErr-at_err _ c.in-Err.ensures.unopened c.submit.ensures.of
+returns-in-Err-clause-at g c = rw c.refused.ensures (IfErr-at_err _ c.in-Err.ensures.unopened c.submit.ensures.of)

@@ -17,5 +17,4 @@ returns-in-Ok-clause-printed g c = (
 )
 
 pub returns-in-Err-clause-refused : goal.returns-in-Err-clause-refused
-returns-in-Err-clause-refused g c =
-    (c.in-Err.unmigrated, refl, c.in-Err.ensures.refused, c.failure_of_refused.ensures)
+returns-in-Err-clause-refused g c = rw c.refused.ensures (c.in-Err.unmigrated, refl, c.in-Err.ensures.refused, refl)

@@ -25,15 +25,15 @@ returns-in-Ok-clause-refused g c =
     ))
 
 pub returns-in-Err-clause-refused : goal.returns-in-Err-clause-refused
-returns-in-Err-clause-refused g c = inl (
+returns-in-Err-clause-refused g c = rw c.refused.ensures (inl (
   inl (
     c.in-Err.unopened,
     refl,
     IfErr-at_err _ c.in-Err.ensures.unopened c.write.ensures.unopened,
-    c.failure_of_refused.ensures,
+    refl,
   ),
   IfErr-at_err _ c.in-Err.ensures.unopened c.write.ensures.unchanged,
-)
+))
 
 pub returns-in-Ok-clause-at : goal.returns-in-Ok-clause-at
 returns-in-Ok-clause-at g c =
@@ -41,4 +41,4 @@ returns-in-Ok-clause-at g c =
     named _ (IfOk-at_ok (λ p. string_bytes p.0.lock.locked.name ≡ _) is c.write.ensures.at)
 
 pub returns-in-Err-clause-at : goal.returns-in-Err-clause-at
-returns-in-Err-clause-at g c = IfErr-at_err _ c.in-Err.ensures.unopened c.write.ensures.of
+returns-in-Err-clause-at g c = rw c.refused.ensures (IfErr-at_err _ c.in-Err.ensures.unopened c.write.ensures.of)

@@ -16,12 +16,12 @@ returns-in-Ok-clause-refused g c =
     idle_with _ _ (λ book. book.desk) c.serve_book.result book _ c.in-Ok.closed shut _ is c.serve_book.ensures.refused
 
 pub returns-in-Err-clause-refused : goal.returns-in-Err-clause-refused
-returns-in-Err-clause-refused g c = inl (
+returns-in-Err-clause-refused g c = rw c.refused.ensures (inl (
   c.in-Err.unopened,
   refl,
   IfErr-at_err _ c.in-Err.ensures.unopened c.serve_book.ensures.unopened,
-  c.failure_of_refused.ensures,
-)
+  refl,
+))
 
 pub returns-in-Ok-clause-at : goal.returns-in-Ok-clause-at
 returns-in-Ok-clause-at g c =
@@ -29,4 +29,4 @@ returns-in-Ok-clause-at g c =
     named _ (IfOk-at_ok (λ p. string_bytes p.0.lock.locked.name ≡ _) is c.serve_book.ensures.at)
 
 pub returns-in-Err-clause-at : goal.returns-in-Err-clause-at
-returns-in-Err-clause-at g c = IfErr-at_err _ c.in-Err.ensures.unopened c.serve_book.ensures.of
+returns-in-Err-clause-at g c = rw c.refused.ensures (IfErr-at_err _ c.in-Err.ensures.unopened c.serve_book.ensures.of)
