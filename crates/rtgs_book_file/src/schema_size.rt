@@ -30,7 +30,7 @@ pub(crate) struct SchemaSize {
 }
 
 impl SchemaSize {
-    /// How many objects the file lists.
+    /// How many objects the file lists, where that could be read.
     pub(crate) fn listed(self) -> ObjectCount
         ensures { result ≡ self.listed }
     {

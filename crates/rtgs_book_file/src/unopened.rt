@@ -31,7 +31,7 @@ impl<S: Start> Unopened<S> {
         Unopened { fault, cause, name }
     }
 
-    /// What was wrong with the file.
+    /// The fault that the file is refused with, as a run reports it.
     pub fn fault(&self) -> FileFault
         ensures { result ≡ self.now.fault }
     {

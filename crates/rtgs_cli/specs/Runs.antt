@@ -33,7 +33,7 @@ use Rattle.rtgs_cli_imports.specs.declared.order_file.OrderFile.{OrderFile}
 use Rattle.rtgs_cli_readings.specs.Readings as readings
 use Rattle.rtgs_cli_serving.specs.Serving.{Serves, IsNotServed}
 use Rattle.rtgs_cli_serving.specs.declared.no_port.NoPort.{NoPort}
-use Rattle.rtgs_cli.specs.Writers.{Writer, Writers, IsKept, IsWritten}
+use Rattle.rtgs_cli.specs.Writers.{Writer, Writers, HasTakenNothing, HasTaken}
 
 -- help, or the version, and no fault of the command line
 abbrev pub is_help : ErrorKind → Bool
@@ -41,23 +41,23 @@ is_help kind.DisplayHelp = true
 is_help kind.DisplayVersion = true
 is_help _ = false
 
--- What is left on the writers where the command line itself has this kind of answer: help on the first alone, or a
--- fault of the command line on the second alone. Lack of memory is refused, and can come in place of both.
+-- What is left on the writers where the command line itself has this kind of answer: help on standard output alone, or
+-- a fault of the command line on standard error alone. Lack of memory is refused, and can come in place of both.
 abbrev pub IsExplained : {O E : Type 0} → ErrorKind → Writers O E → Ended → Type 0
 IsExplained what writers (ended.Printed printed) = ⊥
 IsExplained what writers (ended.Helped sent) =
-    (is_help what ≡ true) × ((text : List ℕ) × IsWritten sent writers.out text) × IsKept writers.err
+    (is_help what ≡ true) × ((text : List ℕ) × HasTaken sent writers.out text) × HasTakenNothing writers.err
 IsExplained what writers (ended.Refused failure sent) =
-    (failure ≡ Refused OutOfMemory) × IsWritten sent writers.err (ended_line (refusal_line failure))
-    × IsKept writers.out
+    (failure ≡ Refused OutOfMemory) × HasTaken sent writers.err (ended_line (refusal_line failure))
+    × HasTakenNothing writers.out
 IsExplained what writers (ended.Misused sent) =
-    (is_help what ≡ false) × (what ≢ kind.OutOfMemory) × ((text : List ℕ) × IsWritten sent writers.err text)
-    × IsKept writers.out
+    (is_help what ≡ false) × (what ≢ kind.OutOfMemory) × ((text : List ℕ) × HasTaken sent writers.err text)
+    × HasTakenNothing writers.out
 
 -- what is said of a refusal, or of each, is left on standard output, as far as that took it
 abbrev pub AreExplained : {O : Type 0} → Option RefusalKind → Writer O → Ended → Type 0
 AreExplained which out ends =
-    (sent : Result ⊤ WriterFailed) × (ends ≡ ended.Helped sent) × IsWritten sent out (explanation which)
+    (sent : Result ⊤ WriterFailed) × (ends ≡ ended.Helped sent) × HasTaken sent out (explanation which)
 
 -- the file that a request names
 abbrev pub file_of : JudgedRequest → List ℕ
@@ -88,13 +88,13 @@ module _ {A K U C : Type 0} (book_file : OverFile K U C) where
   -- Why a run with this request is refused, and what it leaves on standard output: nothing, or the beginning of a
   -- statement that was refused after some of its rows.
   abbrev pub Denies : {O : Type 0} → JudgedRequest → Writer O → Traces A U C → Failure → Type 0
-  Denies (Make file) out touched why = IsNoBookMade book_file touched why × IsKept out
-  Denies (Migrate file) out touched why = IsNotMigrated book_file touched why × IsKept out
-  Denies (Submit file command) out touched why = IsNotAnswered book_file command touched why × IsKept out
-  Denies (Import file sender orders) out touched why = IsNotImported book_file sender touched why × IsKept out
+  Denies (Make file) out touched why = IsNoBookMade book_file touched why × HasTakenNothing out
+  Denies (Migrate file) out touched why = IsNotMigrated book_file touched why × HasTakenNothing out
+  Denies (Submit file command) out touched why = IsNotAnswered book_file command touched why × HasTakenNothing out
+  Denies (Import file sender orders) out touched why = IsNotImported book_file sender touched why × HasTakenNothing out
   Denies (Read file reading) out touched why =
       readings.Denies book_file out.contents reading touched why out.before out.after
-  Denies (Serve file port count operator) out touched why = IsNotServed book_file touched why × IsKept out
+  Denies (Serve file port count operator) out touched why = IsNotServed book_file touched why × HasTakenNothing out
 
   -- the words spell a request for which this was printed, and whose file was touched
   abbrev pub IsCarriedOut : {O : Type 0} → Words → Writer O → Traces A U C → Printed → Type 0
@@ -107,18 +107,18 @@ module _ {A K U C : Type 0} (book_file : OverFile K U C) where
   abbrev pub IsDenied : {O : Type 0} → Words → Writer O → Traces A U C → Failure → Type 0
   IsDenied words out touched why =
       ((form : Lexical) × ReadsRequest words (Err form) × (why ≡ Form form) × IsUntouched book_file touched
-      × IsKept out)
+      × HasTakenNothing out)
       ⊎ ((request : JudgedRequest) × ReadsRequest words (Ok request) × Denies request out touched why
       × IsOf book_file (file_of request) touched)
 
   -- What a run that was given these words did, by how it ended, and leaves on its writers: what was printed for the
-  -- request that they spell stands on the first alone, and why it was refused on the second alone. Rows of a statement
-  -- that was refused behind them stay on the first.
+  -- request that they spell stands on standard output alone, and why it was refused on standard error alone. Rows of a
+  -- statement that was refused behind them stay on standard output.
   abbrev pub EndsFor : {O E : Type 0} → Words → Writers O E → Ended → Traces A U C → Type 0
   EndsFor words writers (ended.Printed printed) touched =
-      IsCarriedOut words writers.out touched printed × IsKept writers.err
+      IsCarriedOut words writers.out touched printed × HasTakenNothing writers.err
   EndsFor words writers (ended.Refused failure sent) touched =
-      IsWritten sent writers.err (ended_line (refusal_line failure)) × IsDenied words writers.out touched failure
+      HasTaken sent writers.err (ended_line (refusal_line failure)) × IsDenied words writers.out touched failure
   EndsFor words writers (ended.Helped sent) touched = ⊥
   EndsFor words writers (ended.Misused sent) touched = ⊥
 
@@ -127,9 +127,10 @@ module _ {A K U C : Type 0} (book_file : OverFile K U C) where
   abbrev pub EndsAfter : {O E : Type 0} → Result (Option Asked) Error → Writers O E → Ended → Traces A U C → Type 0
   EndsAfter (Ok (Some (Run words))) writers ends touched = EndsFor words writers ends touched
   EndsAfter (Ok (Some (Refusals which))) writers ends touched =
-      AreExplained which writers.out ends × IsKept writers.err × IsUntouched book_file touched
+      AreExplained which writers.out ends × HasTakenNothing writers.err × IsUntouched book_file touched
   EndsAfter (Ok None) writers ends touched =
-      (ends ≡ ended.Misused (Ok _)) × IsKept writers.out × IsKept writers.err × IsUntouched book_file touched
+      (ends ≡ ended.Misused (Ok _)) × HasTakenNothing writers.out × HasTakenNothing writers.err
+      × IsUntouched book_file touched
   EndsAfter (Err error) writers ends touched =
       IsExplained (kind_of error) writers ends × IsUntouched book_file touched
 

@@ -14,11 +14,11 @@ pub record Writers (O E : Type 0) : Type 0 where
   pub out : Writer O
   pub err : Writer E
 
--- nothing was written
-abbrev pub IsKept : {W : Type 0} → Writer W → Type 0
-IsKept writer = writer.after ≡ writer.before
+-- the writer took nothing
+abbrev pub HasTakenNothing : {W : Type 0} → Writer W → Type 0
+HasTakenNothing writer = writer.after ≡ writer.before
 
--- this text was written, as far as the writer took it
-abbrev pub IsWritten : {W : Type 0} → Result ⊤ WriterFailed → Writer W → List ℕ → Type 0
-IsWritten sent writer text =
+-- the writer took this text, or a beginning of it where it failed
+abbrev pub HasTaken : {W : Type 0} → Result ⊤ WriterFailed → Writer W → List ℕ → Type 0
+HasTaken sent writer text =
     IsSentTo sent (writer.contents writer.before) (writer.contents writer.after) text

@@ -33,12 +33,12 @@ fn explain<O: Write, E: Write>(alloc: Global, error: &Error, out: &mut O, err: &
     }) result }
 {
     if error.kind() == ErrorKind::OutOfMemory {
-        return refused(Failure::from(AllocError), err);
+        return report_refusal(Failure::from(AllocError), err);
     }
     match format!(in alloc; "{error}") {
         Ok(text) if error.use_stderr() => Ended::Misused(send_all(err, text.as_bytes())),
         Ok(text) => Ended::Helped(send_all(out, text.as_bytes())),
-        Err(error) => refused(Failure::from(error), err),
+        Err(error) => report_refusal(Failure::from(error), err),
     }
 }
 
@@ -53,7 +53,7 @@ fn explain_refusals<O: Write>(which: Option<RefusalKind>, out: &mut O) -> Ended
 }
 
 // Reports on standard error that a run is refused.
-fn refused<E: Write>(failure: Failure, err: &mut E) -> Ended
+fn report_refusal<E: Write>(failure: Failure, err: &mut E) -> Ended
     ensures { (sent : Result ⊤ WriterFailed) × (result ≡ Ended.Refused failure sent)
         × IsSentTo sent (E.contents err.old) (E.contents err.new) (ended_line (refusal_line failure)) }
 {
@@ -96,7 +96,7 @@ fn end<B: BookFile, O: Write, E: Write>(
             let (acted, touched) = carry_out(rt, &words, start, out);
             match acted {
                 Ok(printed) => (Ended::Printed(printed), touched),
-                Err(failure) => (refused(failure, err), touched),
+                Err(failure) => (report_refusal(failure, err), touched),
             }
         }
         Ok(Some(Asked::Refusals(which))) => {

@@ -71,8 +71,8 @@ AreWordsOfRun called given (Import file sender orders) = (called ≡ codes "impo
     × IsWord given (codes "code") sender × IsWord given (codes "orders") orders
 AreWordsOfRun called given (Read file reading) = IsWord given (codes "file") file × AreWordsOfReading called given
     reading
-AreWordsOfRun called given (Serve file port count operator) = (called ≡ codes "serve") × IsWord given (codes "file") file
-    × IsNumber 16 given (codes "port") port × IsNumber 32 given (codes "count") count
+AreWordsOfRun called given (Serve file port count operator) = (called ≡ codes "serve")
+    × IsWord given (codes "file") file × IsNumber 16 given (codes "port") port × IsNumber 32 given (codes "count") count
     × IsWord given (codes "operator-key") operator
 
 -- the words that are asked for, or none where there are none

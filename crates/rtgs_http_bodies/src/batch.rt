@@ -11,7 +11,7 @@ use rtgs_book::{NewOrder, Refusal};
 use rtgs_order_files::{BatchResult, write_results};
 use std::alloc::{AllocError, Global};
 
-/// The reply with the result file of a batch. A batch that stopped has another status. The only error is want of
+/// The reply with the result file of a batch. A batch that stopped has another status. The only error is lack of
 /// memory.
 pub fn batch_reply(
     alloc: Global,

@@ -21,7 +21,8 @@ use sqlite::Alter;
 use sqlite_trees::store::Reopen;
 use std::alloc::Global;
 
-/// Sends the rows of an order file, and gives how each was answered.
+/// Sends the rows of an order file, and gives how each was answered, up to the one at which the batch stopped, if it
+/// did: no row behind that one is answered.
 pub(crate) fn send<K: Keeper>(
     alloc: Global,
     desk: &mut Desk<K>,

@@ -114,7 +114,7 @@ fn due_date(word: Option<&str>) -> Result<Option<BusinessDate>, Fail> {
 
 /// The commands of a script, of which there have to be some.
 pub fn commands(alloc: Global, script: &str) -> Result<Vec<Command>, Fail> {
-    // Names the types of orders and of due dates for the borrow checker, which finds them nowhere else in this function.
+    // Names the types of orders and of due dates for the borrow checker: they stand nowhere else in this function.
     let (_no_order, _no_date): (Option<NewOrder>, Option<BusinessDate>) = (None, None);
     let mut commands = Vec::new(alloc);
     for line in script.lines() {

@@ -17,7 +17,7 @@ use rtgs_tables::SqlKeeper;
 use sqlite::{Alter, Connection};
 use std::alloc::Global;
 
-/// Makes the tables of a new book in an empty database, and opens the desk over them. On a fault, which is want of
+/// Makes the tables of a new book in an empty database, and opens the desk over them. On a fault, which is lack of
 /// memory or the store's, the connection comes back, and the database is empty or has all tables of the new book. A
 /// database that has tables already is left alone.
 pub fn create<S: Alter + Drop>(

@@ -45,5 +45,5 @@ pub enum Request<'a, C, R, P, K> {
 /// A request in words that have not been judged.
 pub type Words<'a> = Request<'a, CommandWords<'a>, ReadingWords<'a>, &'a str, &'a str>;
 
-/// A request, each word of which was in its form. The operator's key has this digest.
+/// A request, each word of which was in its form. Of the operator's key it holds the digest.
 pub type JudgedRequest<'a> = Request<'a, Command, Reading, Code, KeyDigest>;
