@@ -29,8 +29,8 @@ pub enum Command {
         reference: Reference,
         cents: PostingAmount,
     },
-    /// Opens the business day, and lets the held orders into their queues that are due by its date.
-    /// On an automatic day a resolution follows each command that may let orders settle.
+    /// Opens the business day, and lets held orders that are due by its date into their queues. On an automatic day a
+    /// resolution follows each command that may let orders settle.
     OpenDay(NewDay),
     /// Pays, at once or after the orders that are queued; with a due date, not before that date.
     Order {

@@ -1,7 +1,7 @@
 //! Participants.
 use rtgs_money::{Code, Credit, KeyDigest, Name};
 
-/// A bank with an account. The credit is how far its balance may go below zero while the desk is open.
+/// A bank with an account. The credit is how far its balance may go below zero until the day is closed.
 #[derive(Clone, Copy, Debug, PartialEq, Eq)]
 pub struct Participant {
     pub code: Code,

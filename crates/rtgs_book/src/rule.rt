@@ -26,10 +26,10 @@ pub enum Rule {
     /// Nothing is queued while the desk is closed, at most 500 orders of a sender are queued or held, and queued orders
     /// are of the day.
     Queues,
-    /// A day that is not closed has a date, and no date is on a weekend. The dates of marks, of postings and of orders
-    /// without a due date never fall along their lists, and none is after the day's. The date of an order with a due
-    /// date is not before that date; it is the due date, later than the day's, while the order is held, and not after
-    /// the day's once it has entered its queue.
+    /// A day that is not closed has a date, and neither this nor the date of an order or a mark is on a weekend. The
+    /// dates of marks, of postings and of orders without a due date never fall along their lists, and none is after the
+    /// day's. The date of an order with a due date is not before that date; it is the due date, later than the day's,
+    /// while the order is held, and not after the day's once it has entered its queue.
     Dates,
     /// Every balance is at least its floor.
     Floors,

@@ -14,10 +14,10 @@ use sqlite_store::{OpenError, Unopened};
 use sqlite_wal::{PageSize, probe_first_page, probe_page_size};
 use std::alloc::Global;
 
-// What a header says in its bytes 20 to 23 where each page ends in a sum.
+// What a header says in its bytes 20 to 23 where each page ends in a checksum.
 const WITH_SUMS: u32 = 0x0840_2020;
 
-// The size of the page that an opening leaves which was cut short.
+// The page size of a file whose making was cut short.
 const NEW_SIZE: usize = 4096;
 
 // How many pages are kept in memory. Each page of the list is read once, so more would only be made and thrown away.

@@ -1,4 +1,4 @@
-//! A book's file over which no desk was opened.
+//! A book's file that was refused.
 ghost use Rattle.std.specs.Prelude.{◌≡◌};
 ghost use Rattle.rtgs_book_file.specs.Causes.{fault_of_cause};
 
@@ -9,10 +9,11 @@ use sqlite::Start;
 use std::fmt;
 use std::snapshot::Snapshot;
 
-/// A book's file over which no desk was opened, the fault that is reported, and what refused it. Only a lock that was
-/// not taken, or that did not lead to a desk, makes one, and each of them took the only `Start` of its run: so a run
-/// that has this value has opened no desk over the file, and opens none. Where the store was opened, its files were let
-/// go, and then its lock. Contracts name the file by the name of its lock, as far as memory was had for that.
+/// A book's file that was refused: no desk was opened over it, no book made in it, or its tables not brought to the
+/// newest version; with the fault that is reported, and its cause. Only a lock that was not taken, or that did not lead
+/// to a desk, makes one, and each of them took the only `Start` of its run: so a run that has this value has opened no
+/// desk over the file, and opens none. Where the store was opened, its files were let go, and then its lock. Contracts
+/// name the file by the name of its lock, as far as memory was had for that.
 #[derive(Drop)]
 pub struct Unopened<S: Start> {
     fault: FileFault,

@@ -13,7 +13,7 @@ pub enum Ended {
     Printed(Printed),
     /// It was refused, or it failed: why, and whether standard error took the line of that whole.
     Refused(Failure, Result<(), WriterFailed>),
-    /// Its words asked for help: whether standard output took it whole.
+    /// Its words asked for help, or for what refusals mean: whether standard output took that whole.
     Helped(Result<(), WriterFailed>),
     /// Its words are no command line: whether standard error took whole what is wrong with them.
     Misused(Result<(), WriterFailed>),

@@ -1,3 +1,4 @@
+//! The one error of making room.
 ghost use Rattle.std.specs.Prelude.{codes, Some};
 
 use std::alloc::{AllocError, AllocFailed};

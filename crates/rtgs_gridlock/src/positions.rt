@@ -1,3 +1,4 @@
+//! Balances and floors of the participants.
 ghost use Rattle.std.specs.Prelude.{◌≡◌, ◌↔◌, IsTrue, OnOk, OnErr, ◌^◌, ◌<◌, ◌+ℤ◌, ◌≤ℤ◌, pos, [], ◌∷◌, ◌++◌, length};
 ghost use Rattle.std.specs.Slice.Iter.{iter_rest};
 ghost use Rattle.rtgs_gridlock.specs.Choices.{position_of, AreFloored};

@@ -1,3 +1,4 @@
+//! Queued payments, by the index of their sender.
 ghost use Rattle.std.specs.Prelude.{◌≡◌, ◌↔◌, IsTrue, MatchOption, OnOk, OnErr, ◌^◌, ◌<◌, ◌≤◌, [], ◌∷◌, ◌++◌, length};
 ghost use Rattle.std.specs.Prelude.{slice_get};
 ghost use Rattle.rtgs_gridlock.specs.Choices.{queue_of, payment_count, AreInRange};

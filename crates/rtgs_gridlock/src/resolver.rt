@@ -1,3 +1,4 @@
+//! The greatest choice of queue beginnings.
 ghost use Rattle.std.specs.Prelude.{◌≡◌, ◌+◌, ◌*◌, ◌^◌, ◌<◌, ◌≤◌, IsTrue, IsFalse, List, length, slice_index};
 ghost use Rattle.rtgs_gridlock.specs.declared.positions.Position.{Position};
 ghost use Rattle.rtgs_gridlock.specs.Choices.{payment_count, AreInRange, AreResolvable, IsGreatest};

@@ -1,3 +1,4 @@
+//! What each participant may spend and owes by the present choice, and the steps that were counted.
 ghost use Rattle.std.specs.Prelude.{◌≡◌, ℕ, ◌+◌, ◌*◌, ◌^◌, ◌<◌, ◌≤◌, ◌↔◌, ◌==◌, ◌+ℤ◌, pos, All, IfOk, IsTrue, length};
 ghost use Rattle.std.specs.Prelude.{sum_by, if◌then◌else◌};
 ghost use Rattle.rtgs_gridlock.specs.declared.queues.TheConstants.{LARGEST_AMOUNT};
@@ -11,7 +12,8 @@ use std::alloc::{AllocError, Global};
 use std::marker::Model;
 
 /// What a participant may spend by the present choice, its balance above its floor with what it
-/// receives, and what it sends, both in cents. Its position is the difference.
+/// receives, and what it sends, both in cents. The difference is how far its position, the balance
+/// after settling the choice, is above its floor.
 #[derive(Clone, Copy)]
 pub struct Funding {
     funds: u128,

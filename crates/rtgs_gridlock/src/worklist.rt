@@ -1,3 +1,4 @@
+//! The participants that are still to be tested.
 ghost use Rattle.std.specs.Prelude.{◌≡◌, ℕ, ◌<◌, ◌≤◌, true, false, length, replicate, slice_set, MatchOption, IfOk};
 ghost use Rattle.rtgs_gridlock.specs.Listed.{IsOn, on_count};
 

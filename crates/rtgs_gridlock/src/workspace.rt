@@ -1,3 +1,4 @@
+//! The room that a resolution takes.
 ghost use Rattle.std.specs.Prelude.{◌≡◌, [], ℕ, ◌+◌, ◌^◌, ◌<◌, ◌≤◌, ◌↔◌, IsTrue, IfOk, MatchOption, false, length};
 ghost use Rattle.std.specs.Prelude.{slice_set, slice_index, vec_len};
 ghost use Rattle.rtgs_gridlock.specs.Choices.{payment_count, AreResolvable};

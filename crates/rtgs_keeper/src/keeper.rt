@@ -15,7 +15,7 @@ use rtgs_book::{Change, Core, Fault, Mark, Order, Posting};
 use rtgs_money::{BusinessDate, Code, Reference};
 use std::alloc::Global;
 
-/// A store of one book. Between calls nothing moves.
+/// What keeps one book. Between calls nothing moves.
 pub trait Keeper {
     // The book that is kept, if it is a sound one.
     ghost content: { Self → Book → Type 0 };

@@ -15,9 +15,9 @@ use rtgs_rows::laws::stored_balances_are_the_postings;
 use rtgs_tables::SqlKeeper;
 use sqlite::Alter;
 
-/// Where commands with these replies were a session, whatever a crash leaves, and that is whole and calm, as the desk's
-/// `submit`, `run` and a batch promise it: there the tables that a stop leaves hold a book that the session may find,
-/// which is calm, and their stored balances add up to what was posted.
+/// If commands with these replies were a session whatever a crash leaves, and what it leaves is whole and calm, as the
+/// desk's `submit`, `run` and a batch promise it, then the tables that a crash leaves hold a book that the session may
+/// find, which is calm, and their stored balances add up to what was posted.
 pub fn what_a_session_leaves<S: Alter + Drop>(desk: &Desk<SqlKeeper<S>>)
     ensures { (start : Book) (commands : List Command) (replies : List Reply)
         → ⟦<SqlKeeper<S> as Keeper>⟧.is_whole desk.now.keeper

@@ -17,7 +17,7 @@ use Rattle.rtgs_http_requests.specs.declared.http_fault.HttpFault.{HttpFault}
 use Rattle.rtgs_http_server.specs.banks.Handling.{ComesTo, WorksFor}
 use Rattle.rtgs_http_server.specs.banks.ReplyMessages.{IsSaid, fault_message}
 
--- what is asked is the own of the key's participant, unless the key is the operator's
+-- what is asked concerns the key's participant alone, unless the key is the operator's
 abbrev pub IsAllowed : List ℕ → Book → List ℕ → Result Asked HttpFault → Type 0
 IsAllowed operator old input (Ok asked) =
     (digest : List ℕ) × CarriesKey input digest × MayAsk operator (code_under old) digest asked
@@ -33,8 +33,8 @@ pub record Handles {K : Type 0} (g : Ghosts K) (operator : List ℕ) (old : Book
   -- the commands that it asks for are a session from the book that the desk held
   pub works : WorksFor g old answer desk
 
--- No step before needs the book, and all are good: the next one looks up whose the key is, or, whoever the participants
--- are, all is read of what is asked.
+-- No step so far needed the book, and none failed: the next one looks up whose key it is, or what is asked is known
+-- already, whoever the participants are.
 abbrev pub NeedsBook : List ℕ → List ℕ → Type 0
 NeedsBook operator input =
     PlanLooksUp operator input ⊎ ((asked : Asked) × ((code_of : CodeOf) → AsksFor operator code_of input (Ok asked)))
@@ -56,6 +56,6 @@ IsAskedByBearer operator desk input =
 pub record Exchanges {K : Type 0} (g : Ghosts K) (operator : List ℕ) (old : Seen K) (input : List ℕ) (new : Seen K)
     (sent : Message) : Type 0 where
   pub handles : g.is_honest new.keeper → (book : Book) → Holds g old book → Handles g operator book input new sent
-  -- whatever the desk holds, it changes only for what the bearer of a key may ask
+  -- whatever the desk holds, it changes only where something is asked that the bearer of the key may ask
   pub changes : (new ≡ old) ⊎ IsAskedByBearer operator old input
   pub failed : g.has_failed old.keeper ≡ true → (new ≡ old) × TurnsAway operator input sent
