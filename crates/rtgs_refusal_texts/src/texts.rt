@@ -295,8 +295,8 @@ const ANSWER_LOST: &str = "\
 
 const OUT_OF_MEMORY: &str = "\
 90 OutOfMemory
-  means: memory ran out. Nothing has changed, except that the rows of an `import` before `stopped`
-      stand
+  means: memory ran out. Nothing has changed, except for the orders of an `import` that were
+      accepted before: they stand
   comes from: each run and each request
   do: give the machine more memory, and give the command again
 ";
