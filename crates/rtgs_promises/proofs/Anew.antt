@@ -14,7 +14,7 @@ use Rattle.rtgs_rows.specs.Keeping.{AddsUp, IsBookOf}
 use Rattle.rtgs_book_file.specs.stored_desk.Stored.{AreTablesOf}
 use Rattle.rtgs_tables.specs.Building.{IsBlank}
 use Rattle.rtgs_promises.specs.Headline.{AreExactly, AreRowsOf, EndsEarly, EndsEarlyAnew, IsForced}
-use Rattle.rtgs_promises.specs.declared.sessions.Cause.{Cause}
+use Rattle.rtgs_promises.specs.declared.sessions.NoSession.{NoSession}
 use Rattle.rtgs_promises.proofs.Headlines.{Laws, headline}
 use Rattle.rtgs_promises.proofs.Lives.{no_life}
 
@@ -40,7 +40,7 @@ rows_of book trees it = record {
 }
 
 -- sessions over the tables of the new book that ended early
-pub anew : (given : List (List Command)) (said : List (List Reply)) (cause : Cause) (may_leave : Trees → Type 0)
+pub anew : (given : List (List Command)) (said : List (List Reply)) (cause : NoSession) (may_leave : Trees → Type 0)
     → EndsEarly new_book given said cause may_leave → EndsEarlyAnew given said cause may_leave
 anew given said cause may_leave it = record {
   left = λ trees may.
@@ -51,7 +51,7 @@ anew given said cause may_leave it = record {
 
 -- no session was had, since the tables were not made, or the store failed when they were
 pub none_had : Laws → ((book : Book) (content : Content) → IsBookOf book content → AddsUp content)
-    → (given : List (List Command)) (cause : Cause) (may_leave : Trees → Type 0) → IsForced cause
+    → (given : List (List Command)) (cause : NoSession) (may_leave : Trees → Type 0) → IsForced cause
     → ((trees : Trees) → may_leave trees → HasNoTables trees ⊎ AreTablesOf new_book trees)
     → EndsEarlyAnew given [] cause may_leave
 none_had laws money given cause may_leave forced left = record {

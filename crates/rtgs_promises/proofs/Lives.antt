@@ -9,7 +9,7 @@ use Rattle.rtgs_book.specs.Outcome.{Reply}
 use Rattle.rtgs_book.specs.Session.{Session, IsSession, IsLife}
 use Rattle.rtgs_book.specs.Soundness.{IsSound}
 use Rattle.rtgs_promises.specs.Headline.{AreExactly, EndsEarly, IsForced}
-use Rattle.rtgs_promises.specs.declared.sessions.Cause.{Cause}
+use Rattle.rtgs_promises.specs.declared.sessions.NoSession.{NoSession}
 use Rattle.rtgs_promises.proofs.Headlines.{AreLife, Laws, headline}
 
 -- ---- a life
@@ -86,7 +86,7 @@ at_first First Now HeldFirst Held back held = record {
 
 -- ---- sessions that ended early
 
-pub ends_early : Laws → (start : Book) (given : List (List Command)) (said : List (List Reply)) (cause : Cause)
+pub ends_early : Laws → (start : Book) (given : List (List Command)) (said : List (List Reply)) (cause : NoSession)
     (may_leave : Trees → Type 0) → IsSound start → IsCalm start → IsForced cause
     → ((trees : Trees) → may_leave trees
     → (found : Book) × AreExactly found trees × AreLife start (take (length said) given) said found)

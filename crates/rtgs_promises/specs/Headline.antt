@@ -21,8 +21,8 @@ use Rattle.rtgs_book.specs.Step.{Step, is_followed}
 use Rattle.rtgs_laws.specs.repeats.Lives.{AreLived}
 use Rattle.rtgs_rows.specs.Content.{Content, HasNoTables, Holding, Holds}
 use Rattle.rtgs_rows.specs.Keeping.{AddsUp, AreOf, IsBookOf}
-use Rattle.rtgs_promises.specs.declared.sessions.Cause.{Cause}
-use Rattle.rtgs_promises.specs.declared.sessions.Cause.TheVariants.{NoDesk}
+use Rattle.rtgs_promises.specs.declared.sessions.NoSession.{NoSession}
+use Rattle.rtgs_promises.specs.declared.sessions.NoSession.TheVariants.{NoDesk}
 
 -- A resolution: under one mark it settles all orders of the greatest choice of queue beginnings that leaves nobody
 -- below its floor. Where that choice has no order, and while the desk is closed, nothing changes.
@@ -98,13 +98,13 @@ abbrev pub LeavesExactly : Book → State → Type 0
 LeavesExactly book s = (trees : Trees) → s.may_leave trees → AreExactly book trees
 
 -- where no desk opened, memory was wanting, or the store failed
-abbrev pub IsForced : Cause → Type 0
+abbrev pub IsForced : NoSession → Type 0
 IsForced (NoDesk fault) = (fault ≡ OutOfMemory) ⊎ (fault ≡ StoreFault)
 IsForced cause = ⊤
 
 -- Sessions that ended early: of those that have replies it is the headline, whatever a crash leaves. `given` are the
 -- commands of all sessions that were to be.
-pub record EndsEarly (start : Book) (given : List (List Command)) (said : List (List Reply)) (cause : Cause)
+pub record EndsEarly (start : Book) (given : List (List Command)) (said : List (List Reply)) (cause : NoSession)
     (may_leave : Trees → Type 0) : Type 0 where
   pub left : (trees : Trees) → may_leave trees
       → (found : Book) × AreExactly found trees × IsHeadline start (take (length said) given) said found
@@ -112,7 +112,7 @@ pub record EndsEarly (start : Book) (given : List (List Command)) (said : List (
 
 -- Sessions from the new book that ended early. Whatever a crash leaves has no tables, and no session was had; or of
 -- those that have replies it is the headline.
-pub record EndsEarlyAnew (given : List (List Command)) (said : List (List Reply)) (cause : Cause)
+pub record EndsEarlyAnew (given : List (List Command)) (said : List (List Reply)) (cause : NoSession)
     (may_leave : Trees → Type 0) : Type 0 where
   pub left : (trees : Trees) → may_leave trees
       → (HasNoTables trees × (said ≡ []))

@@ -9,7 +9,7 @@ ghost use Rattle.rtgs_desk.specs.batches.Sent.{Sent};
 ghost use Rattle.rtgs_desk.specs.Holding.{Holds};
 ghost use Rattle.rtgs_book_file.specs.stored_desk.Stored.{AreTablesOf};
 
-use crate::sessions::{Cause, Stop};
+use crate::sessions::{NoSession, Stop};
 use crate::stopping::found_again;
 use rtgs_book::{NewOrder, Refusal};
 use rtgs_desk::{Desk, submit_batch};
@@ -28,7 +28,7 @@ pub(crate) fn send<K: Keeper>(
     desk: &mut Desk<K>,
     sender: Code,
     rows: &[NewOrder],
-) -> Result<BatchResult, Cause>
+) -> Result<BatchResult, NoSession>
     ensures stopped { IfOk result (λ batch. StopsAfter (length batch.replies.items) (length rows.now) batch.stopped) }
     ensures sent { IfOk result (λ batch. K.is_honest desk.new.keeper → (book : Book) → Holds K.Keeper desk.old book
         → Sent K.Keeper book sender rows.now batch.replies.items batch.stopped desk.new) }
@@ -38,7 +38,7 @@ pub(crate) fn send<K: Keeper>(
 {
     match submit_batch(alloc, desk, sender, rows) {
         Ok(batch) => Ok(batch),
-        Err(_) => Err(Cause::NoRoom),
+        Err(_) => Err(NoSession::OutOfMemory),
     }
 }
 
@@ -47,7 +47,7 @@ pub(crate) fn resumed<S: Alter + Reopen + Drop>(
     alloc: Global,
     desk: Desk<SqlKeeper<S>>,
     stop: Stop,
-) -> Result<Desk<SqlKeeper<S>>, Cause>
+) -> Result<Desk<SqlKeeper<S>>, NoSession>
     ensures found { IfOk result (λ next. HasCleanDisk (state S.Store next.keeper.conn)
         → (trees : Trees) × (state S.Store desk.keeper.conn).may_leave trees
         × ((book : Book) → AreTablesOf book trees → Holds ⟦<SqlKeeper<S> as Keeper>⟧ next book)) }

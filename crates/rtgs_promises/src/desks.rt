@@ -29,7 +29,7 @@ ghost use Rattle.rtgs_book_file.specs.stored_desk.Stored.{AreTablesOf, IsMemoryO
 ghost use Rattle.rtgs_tables.specs.Loading.{IsDisplayed, ExplainsDatabase};
 
 use crate::batching::{resumed, send};
-use crate::sessions::{Cause, Stop};
+use crate::sessions::{NoSession, Stop};
 use rtgs_book::{Command, Fault, NewOrder, Refusal, WholeAnswer};
 use rtgs_book_file::stored_desk::open;
 use rtgs_desk::Desk;
@@ -115,7 +115,7 @@ pub fn send_a_batch_twice<S: Alter + Reopen + Drop>(
     sender: Code,
     rows: &[NewOrder],
     stop: Stop,
-) -> Result<(BatchResult, BatchResult, Desk<SqlKeeper<S>>), Cause>
+) -> Result<(BatchResult, BatchResult, Desk<SqlKeeper<S>>), NoSession>
     ensures { IfOk result (λ (first, again, last). HasCleanDisk (state S.Store last.keeper.conn) → (start end : Book)
         (once : List Reply) → Holds ⟦<SqlKeeper<S> as Keeper>⟧ desk start
         → (is_automatic start.day ≡ true

@@ -23,7 +23,7 @@ use crate::desks::tables_are_exactly_the_book;
 use crate::living::{abandoned, begun};
 use crate::making::tables_made;
 use crate::memory::made_in_memory;
-use crate::sessions::{Cause, Unfinished, Visit};
+use crate::sessions::{NoSession, PlannedSession, Unfinished};
 use crate::stopping::found_again;
 use rtgs_book::{Refusal, WholeAnswer};
 use rtgs_book_file::stored_desk::run;
@@ -59,16 +59,16 @@ use std::alloc::Global;
 pub fn make_and_live<S: Alter + Reopen + Drop>(
     alloc: Global,
     conn: Connection<S>,
-    sessions: &[Visit],
+    sessions: &[PlannedSession],
 ) -> Result<(Vec<Vec<Result<WholeAnswer, Refusal>>>, Desk<SqlKeeper<S>>), Unfinished<S>>
     requires { conn.in_transaction ≡ false }
     ensures lived { IfOk result (λ (said, desk). HasCleanDisk (state S.Store desk.keeper.conn)
         → IsEmpty (state S.Store conn) → (desk.keeper.failed ≡ false)
         × ((found : Book) × LeavesRows found (state S.Store desk.keeper.conn)
-        × IsHeadline new_book (map (λ visit. visit.commands.items) sessions.now)
+        × IsHeadline new_book (map (λ session. session.commands.items) sessions.now)
         (map (λ replies. replies.items) said.items) found)) }
     ensures ended { IfErr result (λ it. IsClean (S.Store.view it.store) → IsEmpty (state S.Store conn)
-        → EndsEarlyAnew (map (λ visit. visit.commands.items) sessions.now)
+        → EndsEarlyAnew (map (λ session. session.commands.items) sessions.now)
         (map (λ replies. replies.items) it.said.items) it.cause (S.Store.recovers it.store)) }
 {
     let made = tables_made(alloc, conn)?;
@@ -93,7 +93,7 @@ pub fn make_and_live<S: Alter + Reopen + Drop>(
 pub fn live<S: Alter + Reopen + Drop>(
     alloc: Global,
     conn: Connection<S>,
-    sessions: &[Visit],
+    sessions: &[PlannedSession],
 ) -> Result<(Vec<Vec<Result<WholeAnswer, Refusal>>>, Desk<SqlKeeper<S>>), Unfinished<S>>
     requires { conn.in_transaction ≡ false }
     ensures lived { IfOk result (λ (said, desk). HasCleanDisk (state S.Store desk.keeper.conn)
@@ -101,13 +101,13 @@ pub fn live<S: Alter + Reopen + Drop>(
         → (start : Book) → AreTablesOf start (state S.Store conn).committed.trees
         → (found : Book) × Holds ⟦<SqlKeeper<S> as Keeper>⟧ desk found
         × LeavesExactly found (state S.Store desk.keeper.conn)
-        × IsHeadline start (map (λ visit. visit.commands.items) sessions.now)
+        × IsHeadline start (map (λ session. session.commands.items) sessions.now)
         (map (λ replies. replies.items) said.items) found) }
     ensures honest { IfOk result (λ (_, desk). HasCleanDisk (state S.Store desk.keeper.conn)
         → HasCleanDisk (state S.Store conn)) }
     ensures ended { IfErr result (λ it. IsClean (S.Store.view it.store) → IsTrue (state S.Store conn).is_open
         → (start : Book) → AreTablesOf start (state S.Store conn).committed.trees → IsCalm start
-        → EndsEarly start (map (λ visit. visit.commands.items) sessions.now)
+        → EndsEarly start (map (λ session. session.commands.items) sessions.now)
         (map (λ replies. replies.items) it.said.items) it.cause (S.Store.recovers it.store)) }
     ensures back { IfErr result (λ it. IsClean (S.Store.view it.store) → HasCleanDisk (state S.Store conn)) }
 {
@@ -115,19 +115,19 @@ pub fn live<S: Alter + Reopen + Drop>(
     each_resolution_settles_the_greatest_choice();
     nothing_settles_early();
     let (mut said, mut desk) = begun(alloc, conn, sessions.len())?;
-    for visit in sessions {
-        let replies = match run(&mut desk, visit.commands.as_slice()) {
+    for session in sessions {
+        let replies = match run(&mut desk, session.commands.as_slice()) {
             Ok(replies) => replies,
             Err(_) => {
                 return Err(Unfinished {
                     said,
-                    cause: Cause::NoRoom,
+                    cause: NoSession::OutOfMemory,
                     store: abandoned(desk),
                 });
             }
         };
         said.push_reserved(replies);
-        let next = match found_again(alloc, desk, visit.stop) {
+        let next = match found_again(alloc, desk, session.stop) {
             Ok(next) => next,
             Err((cause, store)) => return Err(Unfinished { said, cause, store }),
         };
@@ -143,16 +143,16 @@ pub fn live<S: Alter + Reopen + Drop>(
 // rtgs_money Amounts.
 pub fn live_in_memory(
     alloc: Global,
-    sessions: &[Visit],
+    sessions: &[PlannedSession],
 ) -> Result<
     (
         Vec<Vec<Result<WholeAnswer, Refusal>>>,
         Desk<SqlKeeper<MemStore>>,
     ),
-    Cause,
+    NoSession,
 >
     ensures { IfOk result (λ (said, desk). (found : Book) × Holds ⟦<SqlKeeper<MemStore> as Keeper>⟧ desk found
-        × IsHeadline new_book (map (λ visit. visit.commands.items) sessions.now)
+        × IsHeadline new_book (map (λ session. session.commands.items) sessions.now)
         (map (λ replies. replies.items) said.items) found) }
 {
     let made = made_in_memory(alloc)?;

@@ -23,4 +23,4 @@ mod serving;
 mod sessions;
 mod stopping;
 
-pub use crate::sessions::{Cause, Stop, Unfinished, Visit};
+pub use crate::sessions::{NoSession, PlannedSession, Stop, Unfinished};

@@ -13,7 +13,7 @@ ghost use Rattle.rtgs_book_file.specs.stored_desk.Stored.{AreTablesOf};
 
 use crate::books::{each_resolution_settles_the_greatest_choice, nothing_settles_early};
 use crate::desks::tables_are_exactly_the_book;
-use crate::sessions::{Cause, Unfinished};
+use crate::sessions::{NoSession, Unfinished};
 use crate::stopping::{opened, store_of};
 use rtgs_book::{Refusal, WholeAnswer};
 use rtgs_desk::Desk;
@@ -54,7 +54,7 @@ pub(crate) fn begun<S: Alter + Drop>(
         Err((fault, store)) => {
             return Err(Unfinished {
                 said: none,
-                cause: Cause::NoDesk(fault),
+                cause: NoSession::NoDesk(fault),
                 store,
             });
         }
@@ -63,7 +63,7 @@ pub(crate) fn begun<S: Alter + Drop>(
         Ok(said) => Ok((said, desk)),
         Err(_) => Err(Unfinished {
             said: none,
-            cause: Cause::NoRoom,
+            cause: NoSession::OutOfMemory,
             store: abandoned(desk),
         }),
     }

@@ -10,7 +10,7 @@ ghost use Rattle.rtgs_promises.specs.Headline.{EndsEarlyAnew};
 ghost use Rattle.rtgs_book_file.specs.stored_desk.Stored.{AreTablesOf};
 
 use crate::books::{each_resolution_settles_the_greatest_choice, nothing_settles_early};
-use crate::sessions::{Cause, Unfinished};
+use crate::sessions::{NoSession, Unfinished};
 use rtgs_book_file::stored_desk::make;
 use rtgs_laws::repeats::laws::life_is_a_run;
 use rtgs_rows::laws::stored_balances_are_the_postings;
@@ -39,7 +39,7 @@ pub(crate) fn tables_made<S: Alter + Drop>(
         Ok(made) => Ok(made),
         Err((fault, left)) => Err(Unfinished {
             said: none,
-            cause: Cause::NoDesk(fault),
+            cause: NoSession::NoDesk(fault),
             store: left.into_store(),
         }),
     }

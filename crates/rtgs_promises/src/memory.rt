@@ -6,23 +6,23 @@ ghost use Rattle.rtgs_book.specs.Books.{new_book};
 ghost use Rattle.rtgs_book_file.specs.stored_desk.Stored.{AreTablesOf};
 
 use crate::making::tables_made;
-use crate::sessions::{Cause, Unfinished};
+use crate::sessions::{NoSession, Unfinished};
 use sqlite::{Connection, MemStore};
 use std::alloc::Global;
 
 // An empty database in memory.
-fn empty_in_memory(alloc: Global) -> Result<Connection<MemStore>, Cause>
+fn empty_in_memory(alloc: Global) -> Result<Connection<MemStore>, NoSession>
     ensures empty { IfOk result (λ conn. IsEmpty (state over_memory conn)) }
     ensures idle { IfOk result (λ conn. conn.in_transaction ≡ false) }
 {
     match Connection::open_in_memory(alloc) {
         Ok(conn) => Ok(conn),
-        Err(_) => Err(Cause::NoRoom),
+        Err(_) => Err(NoSession::OutOfMemory),
     }
 }
 
 /// A database in memory with the tables of a new book.
-pub(crate) fn made_in_memory(alloc: Global) -> Result<Connection<MemStore>, Cause>
+pub(crate) fn made_in_memory(alloc: Global) -> Result<Connection<MemStore>, NoSession>
     ensures held { IfOk result (λ made. IsTrue (state over_memory made).is_open
         × AreTablesOf new_book (state over_memory made).committed.trees) }
     ensures idle { IfOk result (λ made. made.in_transaction ≡ false) }

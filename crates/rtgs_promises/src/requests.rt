@@ -26,7 +26,7 @@ ghost use Rattle.rtgs_promises.specs.Keys.{IsServed, AreAllowed};
 
 use crate::desks::tables_are_exactly_the_book;
 use crate::serving::serve;
-use crate::sessions::{Cause, Stop};
+use crate::sessions::{NoSession, Stop};
 use crate::stopping::found_again;
 use rtgs_desk::Desk;
 use rtgs_http_requests::laws::answers_are_determined;
@@ -63,7 +63,7 @@ pub fn serve_and_stop<R: Read, W: Write, S: Alter + Reopen + Drop>(
     writer: &mut W,
     operator: &KeyDigest,
     stop: Stop,
-) -> (Served, Result<Desk<SqlKeeper<S>>, (Cause, S)>)
+) -> (Served, Result<Desk<SqlKeeper<S>>, (NoSession, S)>)
     ensures found { IfOk result.1 (λ next. HasCleanDisk (state S.Store next.keeper.conn) → (start : Book)
         → Holds ⟦<SqlKeeper<S> as Keeper>⟧ desk start
         → (found : Book) × Holds ⟦<SqlKeeper<S> as Keeper>⟧ next found
@@ -114,7 +114,7 @@ pub fn a_book_and_an_input_have_one_reply<K: Keeper>()
 
 /// **Promise 13. Nobody acts but with his own key.** The commands of a request are those of the operator's key, or
 /// orders and withdrawals of the participant whose key the input carries. Whatever a desk holds, a request changes it
-/// only for what the bearer of a key may ask.
+/// only where it asks for what the bearer of its key may ask.
 // To judge it, read these 76 files, 471 definitions: rtgs_promises Keys; rtgs_desk Seen, batches.Batches, Holding,
 // batches.Sent, Replies, Readings; rtgs_http_bodies replies.Messages, desks.Written, Refusals, replies.Kinds, Statuses,
 // Answers, replies.Texts, replies.Bodies, Readings, desks.Accounts; rtgs_http_server banks.Exchange, banks.Handling,

@@ -12,18 +12,18 @@ pub enum Stop {
     Close,
 }
 
-/// A session with a desk: the commands that it is given, and how it ends.
+/// A session that a desk is to have: the commands that it is given, and how it ends.
 #[derive(Debug, Drop)]
-pub struct Visit {
+pub struct PlannedSession {
     pub commands: Vec<Command>,
     pub stop: Stop,
 }
 
 /// Why no more sessions could be had.
 #[derive(Debug, Drop)]
-pub enum Cause {
+pub enum NoSession {
     /// There was no memory for the replies. The commands of that session were not given.
-    NoRoom,
+    OutOfMemory,
     /// The store did not open again after a crash.
     NotReopened(StoreError),
     /// The database did not open over the store.
@@ -36,6 +36,6 @@ pub enum Cause {
 #[derive(Drop)]
 pub struct Unfinished<S> {
     pub said: Vec<Vec<Result<WholeAnswer, Refusal>>>,
-    pub cause: Cause,
+    pub cause: NoSession,
     pub store: S,
 }

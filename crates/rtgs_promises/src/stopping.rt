@@ -12,7 +12,7 @@ ghost use Rattle.rtgs_promises.specs.Headline.{IsForced};
 ghost use Rattle.rtgs_promises.specs.Stops.{IsUnopened, LeavesCalm, LeavesNoMore};
 ghost use Rattle.rtgs_book_file.specs.stored_desk.Stored.{AreTablesOf};
 
-use crate::sessions::{Cause, Stop};
+use crate::sessions::{NoSession, Stop};
 use rtgs_book::Fault;
 use rtgs_book_file::stored_desk::open;
 use rtgs_desk::Desk;
@@ -106,7 +106,7 @@ pub(crate) fn found_again<S: Alter + Reopen + Drop>(
     alloc: Global,
     desk: Desk<SqlKeeper<S>>,
     stop: Stop,
-) -> Result<Desk<SqlKeeper<S>>, (Cause, S)>
+) -> Result<Desk<SqlKeeper<S>>, (NoSession, S)>
     ensures found { IfOk result (λ next. HasCleanDisk (state S.Store next.keeper.conn)
         → (trees : Trees) × (state S.Store desk.keeper.conn).may_leave trees
         × ((book : Book) → AreTablesOf book trees → Holds ⟦<SqlKeeper<S> as Keeper>⟧ next book)) }
@@ -118,14 +118,14 @@ pub(crate) fn found_again<S: Alter + Reopen + Drop>(
 {
     let store = match stopped(desk.into_keeper().into_connection(), stop) {
         Ok(store) => store,
-        Err((error, left)) => return Err((Cause::NotReopened(error), left)),
+        Err((error, left)) => return Err((NoSession::NotReopened(error), left)),
     };
     let conn = match connected(alloc, store) {
         Ok(conn) => conn,
-        Err((error, left)) => return Err((Cause::NotConnected(error), left)),
+        Err((error, left)) => return Err((NoSession::NotConnected(error), left)),
     };
     match opened(alloc, conn) {
         Ok(next) => Ok(next),
-        Err((fault, left)) => Err((Cause::NoDesk(fault), left)),
+        Err((fault, left)) => Err((NoSession::NoDesk(fault), left)),
     }
 }

@@ -6,8 +6,8 @@ use Rattle.rtgs_promises.proofs.Headlines.{headline}
 use Rattle.rtgs_promises.proofs.Lives.{at_first, one_more, as_counted, all_given, ends_early}
 use Rattle.rtgs_promises.proofs.headline.live.Goals as goal
 
-pub loop-visit-init : goal.loop-visit-init
-loop-visit-init g c =
+pub loop-session-init : goal.loop-session-init
+loop-session-init g c =
     let it = c.in_ok-said.ensures in
     let none : c.in_ok-said.said.items ≡ [] = it.none.0 in
     record {
@@ -16,16 +16,16 @@ loop-visit-init g c =
       so_far = rw none (at_first _ _ _ _ it.honest (λ clean start held. it.held clean held.0 start held.1));
     }
 
-pub loop-visit-preserved : goal.loop-visit-preserved
-loop-visit-preserved g c =
-    let i = c.loop-visit.invariant in
+pub loop-session-preserved : goal.loop-session-preserved
+loop-session-preserved g c =
+    let i = c.loop-session.invariant in
     let ran = c.in-Ok.ensures in
     let found = c.in-Ok-found_again.ensures in
     let sessions = c.args.sessions.now in
-    let at = c.loop-visit.visit-index in
-    let taken : take (at + 1) sessions ≡ take at sessions ++ c.visit-item.result ∷ [] =
-    take_more sessions at c.visit-item.result c.loop-visit-test.true
-    ∙ ap (λ x. take at sessions ++ x ∷ []) (sym c.visit-item.is) in
+    let at = c.loop-session.session-index in
+    let taken : take (at + 1) sessions ≡ take at sessions ++ c.session-item.result ∷ [] =
+    take_more sessions at c.session-item.result c.loop-session-test.true
+    ∙ ap (λ x. take at sessions ++ x ∷ []) (sym c.session-item.is) in
     record {
       counted = grind (arith, common_steps, c.push_reserved.ensures.items, i.counted);
       room = grind (arith, common_steps, c.push_reserved.ensures.capacity, i.room);
@@ -39,8 +39,8 @@ loop-visit-preserved g c =
             let left = ran.left stopped was.0 was.1 next.0 next.1 in (
               left.found,
               next.2 left.found (left.content, left.holds, left.records),
-              one_more _ _ start was.0 left.found (take at sessions) (take (at + 1) sessions) c.loop-visit.said.items
-                  c.push_reserved.new.self.items c.visit-item.result c.in-Ok.replies c.as_slice.result.now
+              one_more _ _ start was.0 left.found (take at sessions) (take (at + 1) sessions) c.loop-session.said.items
+                  c.push_reserved.new.self.items c.session-item.result c.in-Ok.replies c.as_slice.result.now
                   c.as_slice.ensures.value taken c.push_reserved.ensures.items was.2 left.session,
             );
       };
@@ -59,7 +59,7 @@ returns-in_err-said-clause-back g c =
 
 pub returns-in-Err-clause-ended : goal.returns-in-Err-clause-ended
 returns-in-Err-clause-ended g c clean is_open start tables calm =
-    let i = c.loop-visit.invariant in
+    let i = c.loop-session.invariant in
     let same = c.in-Err.ensures.err in
     let so = i.so_far.lived (rw same at (c.abandoned.ensures.honest clean)) start (is_open, tables) in
     ends_early (record {
@@ -71,26 +71,26 @@ returns-in-Err-clause-ended g c clean is_open start tables calm =
     }) start _ _ _ (g.S.Store.recovers c.abandoned.result) tables.2.sound calm tt (λ trees may. (
       so.0,
       c.abandoned.ensures.tables clean so.0 (rw same so.1) trees may,
-      as_counted _ _ start so.0 c.args.sessions.now c.loop-visit.said.items c.loop-visit.visit-index i.counted so.2,
+      as_counted _ _ start so.0 c.args.sessions.now c.loop-session.said.items c.loop-session.session-index i.counted so.2,
     ))
 
 pub returns-in-Err-clause-back : goal.returns-in-Err-clause-back
 returns-in-Err-clause-back g c clean =
     let same = c.in-Err.ensures.err in
-    c.loop-visit.invariant.so_far.honest (rw same at (c.abandoned.ensures.honest clean))
+    c.loop-session.invariant.so_far.honest (rw same at (c.abandoned.ensures.honest clean))
 
 pub returns-in-Err-found_again-clause-ended : goal.returns-in-Err-found_again-clause-ended
 returns-in-Err-found_again-clause-ended g c clean is_open start tables calm =
-    let i = c.loop-visit.invariant in
+    let i = c.loop-session.invariant in
     let ran = c.in-Ok.ensures in
     let lost = c.in-Err-found_again.ensures in
     let stop = lost.lost clean in
     let sessions = c.args.sessions.now in
-    let at = c.loop-visit.visit-index in
+    let at = c.loop-session.session-index in
     let so = i.so_far.lived (ran.honest stop.0) start (is_open, tables) in
-    let taken : take (at + 1) sessions ≡ take at sessions ++ c.visit-item.result ∷ [] =
-    take_more sessions at c.visit-item.result c.loop-visit-test.true
-    ∙ ap (λ x. take at sessions ++ x ∷ []) (sym c.visit-item.is) in
+    let taken : take (at + 1) sessions ≡ take at sessions ++ c.session-item.result ∷ [] =
+    take_more sessions at c.session-item.result c.loop-session-test.true
+    ∙ ap (λ x. take at sessions ++ x ∷ []) (sym c.session-item.is) in
     let counted : length c.push_reserved.new.self.items ≡ at + 1 =
     grind (arith, common_steps, c.push_reserved.ensures.items, i.counted) in
     ends_early (record {
@@ -112,21 +112,21 @@ returns-in-Err-found_again-clause-ended g c clean is_open start tables calm =
         money = left.adds_up;
       },
       as_counted _ _ start left.found sessions c.push_reserved.new.self.items (at + 1) counted
-          (one_more _ _ start so.0 left.found (take at sessions) (take (at + 1) sessions) c.loop-visit.said.items
-          c.push_reserved.new.self.items c.visit-item.result c.in-Ok.replies c.as_slice.result.now
+          (one_more _ _ start so.0 left.found (take at sessions) (take (at + 1) sessions) c.loop-session.said.items
+          c.push_reserved.new.self.items c.session-item.result c.in-Ok.replies c.as_slice.result.now
           c.as_slice.ensures.value taken c.push_reserved.ensures.items so.2 left.session),
     ))
 
 pub returns-in-Err-found_again-clause-back : goal.returns-in-Err-found_again-clause-back
 returns-in-Err-found_again-clause-back g c clean =
-    c.loop-visit.invariant.so_far.honest (c.in-Ok.ensures.honest (c.in-Err-found_again.ensures.lost clean).0)
+    c.loop-session.invariant.so_far.honest (c.in-Ok.ensures.honest (c.in-Err-found_again.ensures.lost clean).0)
 
 pub returns-clause-honest : goal.returns-clause-honest
-returns-clause-honest g c = c.loop-visit.invariant.so_far.honest
+returns-clause-honest g c = c.loop-session.invariant.so_far.honest
 
 pub returns-clause-lived : goal.returns-clause-lived
 returns-clause-lived g c clean is_open start tables =
-    let so_far = c.loop-visit.invariant.so_far in
+    let so_far = c.loop-session.invariant.so_far in
     let so = so_far.lived clean start (is_open, tables) in
     let life = so.2 in (
       so.0,
@@ -141,7 +141,7 @@ returns-clause-lived g c clean is_open start tables =
       }) start so.0 _ _ tables.2.sound (so_far.calm clean start (is_open, tables)) (record {
         sessions = life.sessions;
         commands = life.commands
-            ∙ all_given _ c.loop-visit.visit-index c.args.sessions.now c.loop-visit-test.false;
+            ∙ all_given _ c.loop-session.session-index c.args.sessions.now c.loop-session-test.false;
         replies = life.replies;
         life = life.life;
       }),
