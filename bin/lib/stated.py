@@ -39,7 +39,7 @@ CONSTANTS = {
     "after": ("rtgs_http_server/src/request_reader.rt", "SECONDS_AFTER_A_REPLY"),
     "reply": ("rtgs_http_server/src/reply_writer.rt", "SECONDS_FOR_A_REPLY"),
     "pieces": ("rtgs_http_server/src/port.rt", "MOST_PIECES_DROPPED"),
-    "piece": ("rtgs_http_server/src/port.rt", "PIECE"),
+    "piece": ("rtgs_http_server/src/input/piece.rt", "PIECE"),
     "leaps": ("rtgs_sql_look_ups/src/leaping.rt", "MOST_LEAPS"),
     "halvings": ("rtgs_sql_look_ups/src/seeking.rt", "MOST_HALVINGS"),
     "version": ("rtgs_rows/src/numbers.rt", "VERSION"),
@@ -268,7 +268,8 @@ def content(path):
 
 def constant(path, name):
     """Returns the number of a constant of a file."""
-    found = re.search(rf"^ *(?:pub )?(?:const )?{name}(?:: \w+)? = ([\d_]+);?$", content(f"{CRATES}/{path}"), re.M)
+    form = rf"^ *(?:pub(?:\(crate\))? )?(?:const )?{name}(?:: \w+)? = ([\d_]+);?$"
+    found = re.search(form, content(f"{CRATES}/{path}"), re.M)
     if not found:
         raise ValueError(f"no number {name} in {path}")
     return Number(found[1].replace("_", ""))

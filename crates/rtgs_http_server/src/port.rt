@@ -2,6 +2,7 @@
 ghost use Rattle.std.specs.Prelude.{◌≡◌, ◌+◌, IfOk};
 
 use crate::connections::Connections;
+use crate::input::PIECE;
 use crate::reply_writer::ReplyWriter;
 use crate::request_reader::RequestReader;
 use std::io;
@@ -11,9 +12,6 @@ use std::rc::Rc;
 
 /// How many pieces are read and dropped after a reply, at most.
 const MOST_PIECES_DROPPED: usize = 64;
-
-/// The most bytes of such a piece.
-const PIECE: usize = 4096;
 
 /// A port of this machine at its own address, 127.0.0.1, on which a number of connections is taken.
 #[derive(Drop)]

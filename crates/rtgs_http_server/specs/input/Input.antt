@@ -1,5 +1,5 @@
 -- What is read of an input.
-use Rattle.std.specs.Prelude.{◌≡◌, ⊤, ℕ, List, ◌++◌, take, drop, Option, Some, None, Result, Ok, Err}
+use Rattle.std.specs.Prelude.{◌≡◌, ⊤, ℕ, List, ◌++◌, Option, Some, None, Result, Ok, Err}
 use Rattle.rtgs_http_requests.specs.declared.heads.bank_route.BankRoute.{BankRoute}
 use Rattle.rtgs_http_requests.specs.Callers.{Caller, CodeOf}
 use Rattle.rtgs_http_requests.specs.Exchange.{AsksFor}
@@ -14,10 +14,6 @@ use Rattle.rtgs_http_server.specs.declared.input.unread.Unread.TheVariants.{Read
 abbrev pub OfInput : Option (List ℕ) → (List ℕ → Type 0) → Type 0
 OfInput (Some left) P = P left
 OfInput None P = (left : List ℕ) × P left
-
--- the bytes of a piece from one place up to another
-abbrev pub part : ℕ → ℕ → List ℕ → List ℕ
-part from to piece = drop from (take to piece)
 
 -- It holds of these bytes and then what a reader has left.
 abbrev pub Behind : List ℕ → Option (List ℕ) → (List ℕ → Type 0) → Type 0

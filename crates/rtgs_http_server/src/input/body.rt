@@ -1,39 +1,33 @@
 //! The body of a request, from a reader.
 ghost use Rattle.std.specs.Prelude.{◌≤◌, ◌<◌, length, Ok, Err, IfOk, IfErr, OnOk};
 ghost use Rattle.rtgs_http_requests.specs.declared.feeds.limits.TheConstants.{LONGEST_BODY};
-ghost use Rattle.rtgs_http_server.specs.input.Input.{StepFails, Behind, part};
-ghost use Rattle.rtgs_http_server.specs.declared.input.piece.TheConstants.{PIECE};
+ghost use Rattle.rtgs_http_server.specs.input.Input.{StepFails, Behind};
 ghost use Rattle.rtgs_http_requests.specs.Exchange.{HasBody};
 
-use crate::input::piece::PIECE;
-use crate::input::reader_failed::read_piece;
+use crate::input::piece::Piece;
 use crate::input::unread::Unread;
 use rtgs_http_requests::feeds::limits::LONGEST_BODY;
 use rtgs_http_requests::{BodyFeed, BodyStep, HttpFault};
 use std::alloc::Global;
 use std::io::Read;
 
-/// The body of so many bytes, of which the piece holds the first ones from one place to another.
+/// The body of so many bytes, which begins with the piece.
 pub fn read_body<R: Read>(
     alloc: Global,
     reader: &mut R,
-    piece: &mut [u8; PIECE],
-    from: usize,
-    to: usize,
+    piece: &mut Piece,
     size: usize,
 ) -> Result<BodyFeed, Unread>
     requires size { size ≤ LONGEST_BODY }
-    requires inside { (from ≤ to) × (to ≤ PIECE) }
-    ensures body { IfOk result (λ body. Behind (part from to piece.old) (R.remaining reader.old)
+    ensures body { IfOk result (λ body. Behind piece.old (R.remaining reader.old)
         (λ rest. HasBody rest size (Ok body.bytes))) }
-    ensures fault { IfErr result (λ unread. Behind (part from to piece.old) (R.remaining reader.old)
+    ensures fault { IfErr result (λ unread. Behind piece.old (R.remaining reader.old)
         (λ rest. StepFails (λ fault. HasBody rest size (Err fault)) unread)) }
 {
     let Ok(mut feed) = BodyFeed::new(alloc, size) else {
         return Err(Unread::Faulty(HttpFault::OutOfMemory));
     };
-    let begun = &piece[..to];
-    match feed.feed(&begun[from..]) {
+    match feed.feed(piece.rest()) {
         BodyStep::Full { taken: _ } => Ok(feed),
         BodyStep::More => match fill(reader, piece, &mut feed) {
             Ok(()) => Ok(feed),
@@ -43,7 +37,7 @@ pub fn read_body<R: Read>(
 }
 
 // Takes pieces until the body is whole.
-fn fill<R: Read>(reader: &mut R, piece: &mut [u8; PIECE], feed: &mut BodyFeed) -> Result<(), Unread>
+fn fill<R: Read>(reader: &mut R, piece: &mut Piece, feed: &mut BodyFeed) -> Result<(), Unread>
     requires begun { length feed.old.bytes < feed.old.wanted }
     requires size { feed.old.wanted ≤ LONGEST_BODY }
     ensures body { OnOk result (Behind feed.old.bytes (R.remaining reader.old)
@@ -53,14 +47,13 @@ fn fill<R: Read>(reader: &mut R, piece: &mut [u8; PIECE], feed: &mut BodyFeed) -
 {
     // Each piece has a byte at least.
     for _turn in 0..LONGEST_BODY {
-        let count = match read_piece(reader, piece) {
-            Ok(count) => count,
-            Err(failed) => return Err(Unread::Reader(failed)),
-        };
-        if count == 0 {
+        if let Err(failed) = piece.read(reader) {
+            return Err(Unread::Reader(failed));
+        }
+        if piece.rest().is_empty() {
             return Err(Unread::Faulty(HttpFault::Truncated));
         }
-        match feed.feed(&piece[..count]) {
+        match feed.feed(piece.rest()) {
             BodyStep::Full { taken: _ } => return Ok(()),
             BodyStep::More => {}
         }

@@ -12,16 +12,16 @@ use std::io::Read;
 #[derive(Clone, Copy, Debug, PartialEq, Eq)]
 pub struct ReaderFailed(());
 
-/// Reads the next piece, and tells how many bytes it has. With none the input is at its end.
-pub(in crate::input) fn read_piece<R: Read>(
+/// Reads the next bytes, and tells how many they are. With none the input is at its end.
+pub(in crate::input) fn read_bytes<R: Read>(
     reader: &mut R,
-    piece: &mut [u8; PIECE],
+    bytes: &mut [u8; PIECE],
 ) -> Result<usize, ReaderFailed>
-    ensures bound { ReadsAtMost result piece.new }
-    ensures bytes { ReadConsumes (R.remaining reader.old) (R.remaining reader.new) result piece.new }
+    ensures bound { ReadsAtMost result bytes.new }
+    ensures bytes { ReadConsumes (R.remaining reader.old) (R.remaining reader.new) result bytes.new }
 {
     // The contract is by cases of the result, and the prover sees them where it is taken apart.
-    match given_of(reader.read(&mut piece[..])) {
+    match given_of(reader.read(&mut bytes[..])) {
         Ok(count) => Ok(count),
         Err(failed) => Err(failed),
     }

@@ -1,14 +1,13 @@
 //! A whole request, from a reader.
-ghost use Rattle.std.specs.Prelude.{◌≡◌, ◌≤◌, ℕ, List, true, Err};
-ghost use Rattle.rtgs_http_server.specs.declared.input.piece.TheConstants.{PIECE};
+ghost use Rattle.std.specs.Prelude.{◌≡◌, ℕ, List, true, Err};
 ghost use Rattle.rtgs_http_requests.specs.Plans.{AfterCaller};
 ghost use Rattle.rtgs_http_requests.specs.feeds.Region.{StartsWith};
-ghost use Rattle.rtgs_http_server.specs.input.Input.{Says, FindsCaller, Requests, OfInput, Behind, part};
+ghost use Rattle.rtgs_http_server.specs.input.Input.{Says, FindsCaller, Requests, OfInput, Behind};
 
 use crate::input::body::read_body;
 use crate::input::directory::Directory;
 use crate::input::head::read_region;
-use crate::input::piece::PIECE;
+use crate::input::piece::Piece;
 use crate::input::unread::Unread;
 use rtgs_http_requests::{Admitted, Asked, HttpFault, Plan, body_length, read_asked};
 use rtgs_money::{Code, KeyDigest};
@@ -28,30 +27,25 @@ pub fn read_request<R: Read, D: Directory>(
         (λ input. Requests (D.knows directory.now) operator.now input result) }
     ensures failed { result ≡ Err Unread.DirectoryFailed → D.has_failed directory.now ≡ true }
 {
-    let mut piece = [0u8; PIECE];
-    let (feed, from, to) = match read_region(alloc, reader, &mut piece) {
-        Ok(found) => found,
+    let mut piece = Piece::new();
+    let feed = match read_region(alloc, reader, &mut piece) {
+        Ok(feed) => feed,
         Err(unread) => return Err(unread),
     };
     let region = feed.bytes();
-    read_behind(
-        alloc, reader, operator, directory, region, &mut piece, from, to,
-    )
+    read_behind(alloc, reader, operator, directory, region, &mut piece)
 }
 
-// What an input asks for that is this region, then these bytes of the piece, and then what the reader has left.
+// What an input asks for that is this region, then the piece, and then what the reader has left.
 fn read_behind<R: Read, D: Directory>(
     alloc: Global,
     reader: &mut R,
     operator: &KeyDigest,
     directory: &D,
     region: &[u8],
-    piece: &mut [u8; PIECE],
-    from: usize,
-    to: usize,
+    piece: &mut Piece,
 ) -> Result<Asked, Unread>
-    requires inside { (from ≤ to) × (to ≤ PIECE) }
-    ensures asked { Behind (part from to piece.old) (R.remaining reader.old)
+    ensures asked { Behind piece.old (R.remaining reader.old)
         (λ rest. (input : List ℕ) → StartsWith input region.now rest
         → Requests (D.knows directory.now) operator.now input result) }
     ensures failed { result ≡ Err Unread.DirectoryFailed → D.has_failed directory.now ≡ true }
@@ -64,7 +58,7 @@ fn read_behind<R: Read, D: Directory>(
         Ok(caller) => caller,
         Err(unread) => return Err(unread),
     };
-    read_content(alloc, reader, &plan, caller, piece, from, to)
+    read_content(alloc, reader, &plan, caller, piece)
 }
 
 fn caller_of<D: Directory>(
@@ -87,25 +81,22 @@ fn caller_of<D: Directory>(
     }
 }
 
-// What a caller asks for, where these bytes of the piece come behind the region, and then what the reader has left.
+// What a caller asks for, where the piece comes behind the region, and then what the reader has left.
 fn read_content<R: Read>(
     alloc: Global,
     reader: &mut R,
     plan: &Plan,
     caller: Admitted<Code>,
-    piece: &mut [u8; PIECE],
-    from: usize,
-    to: usize,
+    piece: &mut Piece,
 ) -> Result<Asked, Unread>
-    requires inside { (from ≤ to) × (to ≤ PIECE) }
-    ensures { Behind (part from to piece.old) (R.remaining reader.old)
+    ensures { Behind piece.old (R.remaining reader.old)
         (λ rest. Says (AfterCaller plan.now rest caller) result) }
 {
     let size = match body_length(plan.posts, plan.length) {
         Ok(size) => size as usize,
         Err(fault) => return Err(Unread::Faulty(fault)),
     };
-    let body = match read_body(alloc, reader, piece, from, to, size) {
+    let body = match read_body(alloc, reader, piece, size) {
         Ok(body) => body,
         Err(unread) => return Err(unread),
     };

@@ -2,7 +2,7 @@ use Rattle.std.proofs.Common.{◌≡◌, Err, ◌++◌, ap, subst, sym}
 use Rattle.std.specs.Io.KnownBytes.{Consumes}
 use Rattle.rtgs_http_requests.specs.feeds.Region.{IsRegion}
 use Rattle.rtgs_http_requests.specs.Exchange.{HasRegion}
-use Rattle.rtgs_http_server.specs.input.Input.{StepFails, Requests, part}
+use Rattle.rtgs_http_server.specs.input.Input.{StepFails, Requests}
 use Rattle.rtgs_http_server.specs.declared.input.unread.Unread.TheVariants.{DirectoryFailed}
 use Rattle.rtgs_http_server.proofs.input.Known.{known_map}
 use Rattle.rtgs_http_server.proofs.input.StepOutcomes.{asks_none, region_fails, whole}
@@ -25,7 +25,7 @@ returns-in-Err-clause-failed g c e =
 pub returns-clause-asked : goal.returns-clause-asked
 returns-clause-asked g c =
     let known = g.R.Read.remaining in
-    let first = part c.in-Ok.found.1 c.in-Ok.found.2 c.read_region.new.piece in
+    let first = c.read_region.new.piece in
     let region = c.bytes-region.result.now in
     let read = subst (λ r. Consumes (known c.args.reader.now) (known c.read_region.new.reader) (r ++ first))
     (sym c.bytes-region.ensures) c.in-Ok.ensures.taken in
