@@ -2,6 +2,7 @@
 mod batches;
 mod commands;
 mod feeds;
+mod freeing_none;
 mod lost;
 mod nothing;
 mod openings;

@@ -19,7 +19,7 @@ pub use asking::{Asks, Question};
 pub use call::{Call, Outcome};
 pub use held::{Held, had_none, is_none_left};
 pub use judged::same;
-pub use limit::{for_each_refusal, for_no_request, in_a_process, is_limited};
+pub use limit::{for_each_refusal, for_no_more_requests, for_no_request, in_a_process, is_limited};
 pub use opening::Opens;
 pub use sending::{ORDERS, Sends, orders_desk};
 pub use serving::{ANSWER_LOST, OPERATOR, Serves, request_of};

@@ -23,6 +23,10 @@ const TUNABLES: &str = "glibc.malloc.tcache_count=0:glibc.malloc.mxfast=0";
 /// How many steps must go well, one after another, before no request is refused any more.
 const STEPS_THAT_GO_WELL: usize = 8;
 
+/// By how many steps two calls may differ that ask for the same memory, which may be parted otherwise. A call that copies
+/// a ledger takes over a hundred more.
+const STEPS_OF_NO_COPY: usize = 32;
+
 /// How many steps there are at most.
 const MOST_STEPS: usize = 16384;
 
@@ -62,6 +66,14 @@ impl Counts {
         }
         if self.faulted > 0 {
             return Err(Fail::from("a fault of the store, where memory was refused"));
+        }
+        Ok(())
+    }
+
+    // About as many steps were refused as these.
+    fn are_about(self, others: Counts) -> Result<(), Fail> {
+        if self.refused > others.refused.saturating_add(STEPS_OF_NO_COPY) {
+            return Err(Fail::from("more memory was asked for"));
         }
         Ok(())
     }
@@ -196,6 +208,23 @@ pub fn for_each_refusal<C: Call>(
         return refuse_in_turn(rt, name, call, blocks)?.are_refusals();
     }
     call_once(rt, name, call)?;
+    in_a_process(rt, name)
+}
+
+/// The same of two calls, one after the other, of which the second asks for no more memory than the first.
+pub fn for_no_more_requests<C: Call>(
+    rt: &HostRuntime,
+    name: &str,
+    first: &C,
+    second: &C,
+) -> Result<(), Fail> {
+    if is_limited(rt) {
+        let of_the_first = refuse_in_turn(rt, name, first, 1)?;
+        let of_the_second = refuse_in_turn(rt, name, second, 1)?;
+        of_the_first.are_refusals()?;
+        of_the_second.are_refusals()?;
+        return of_the_second.are_about(of_the_first);
+    }
     in_a_process(rt, name)
 }
 

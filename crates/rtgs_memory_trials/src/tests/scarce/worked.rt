@@ -1,7 +1,6 @@
 //! Commands of every kind, each to a desk where it changes something.
 use super::setting::{
-    MONDAY, TUESDAY, adds, date, limits, opens, opens_automatic, opens_on, pays, pays_on, posts,
-    withdraws,
+    MONDAY, TUESDAY, adds, date, limits, opens, opens_on, pays, pays_on, posts, withdraws,
 };
 use rtgs_book::Command;
 use std::alloc::Global;
@@ -134,14 +133,14 @@ impl Worked {
     /// An order on an automatic day that waits, and settles at once with the first of two that wait.
     pub fn order_that_frees(alloc: Global) -> Result<Worked, Fail> {
         Ok(Worked {
-            before: two_wait(alloc)?,
+            before: two_wait(alloc, true)?,
             command: pays("BETA", "B-1", "ALFA", 50)?,
         })
     }
 
     /// An order on such a day that settles, and frees the first of two that wait under a mark of its own.
     pub fn order_that_settles_and_frees(alloc: Global) -> Result<Worked, Fail> {
-        let mut before = two_wait(alloc)?;
+        let mut before = two_wait(alloc, true)?;
         before.push(posts("BETA", "P-2", 50)?)?;
         Ok(Worked {
             before,
@@ -152,7 +151,7 @@ impl Worked {
     /// A posting on such a day that frees the first of two orders.
     pub fn post_that_frees(alloc: Global) -> Result<Worked, Fail> {
         Ok(Worked {
-            before: two_wait(alloc)?,
+            before: two_wait(alloc, true)?,
             command: posts("ALFA", "P-2", 50)?,
         })
     }
@@ -160,7 +159,7 @@ impl Worked {
     /// A limit on such a day that frees two orders.
     pub fn set_credit_that_frees(alloc: Global) -> Result<Worked, Fail> {
         Ok(Worked {
-            before: two_wait(alloc)?,
+            before: two_wait(alloc, true)?,
             command: limits("ALFA", 60)?,
         })
     }
@@ -168,8 +167,58 @@ impl Worked {
     /// A withdrawal on such a day that frees the order behind it.
     pub fn withdraw_that_frees(alloc: Global) -> Result<Worked, Fail> {
         Ok(Worked {
-            before: two_wait(alloc)?,
+            before: two_wait(alloc, true)?,
             command: withdraws("ALFA", "A-1")?,
+        })
+    }
+
+    /// An order on a day, automatic or not, that settles between two banks of which no order waits.
+    pub fn order_between_others(alloc: Global, automatic: bool) -> Result<Worked, Fail> {
+        let mut before = two_wait(alloc, automatic)?;
+        before.push(posts("GAMA", "P-2", 5)?)?;
+        Ok(Worked {
+            before,
+            command: pays("GAMA", "G-1", "BETA", 5)?,
+        })
+    }
+
+    /// An order on such a day that waits behind two, and that its sender could not pay whatever came in.
+    pub fn order_behind_two(alloc: Global, automatic: bool) -> Result<Worked, Fail> {
+        Ok(Worked {
+            before: two_wait(alloc, automatic)?,
+            command: pays("ALFA", "A-3", "BETA", 7)?,
+        })
+    }
+
+    /// A posting on such a day to a bank of which no order waits.
+    pub fn post_to_another(alloc: Global, automatic: bool) -> Result<Worked, Fail> {
+        Ok(Worked {
+            before: two_wait(alloc, automatic)?,
+            command: posts("BETA", "P-2", 50)?,
+        })
+    }
+
+    /// A posting on such a day that does not cover the first of two orders.
+    pub fn post_that_covers_none(alloc: Global, automatic: bool) -> Result<Worked, Fail> {
+        Ok(Worked {
+            before: two_wait(alloc, automatic)?,
+            command: posts("ALFA", "P-2", 1)?,
+        })
+    }
+
+    /// A limit on such a day of a bank of which no order waits.
+    pub fn set_credit_of_another(alloc: Global, automatic: bool) -> Result<Worked, Fail> {
+        Ok(Worked {
+            before: two_wait(alloc, automatic)?,
+            command: limits("BETA", 50)?,
+        })
+    }
+
+    /// A withdrawal on such a day of the last order of a queue.
+    pub fn withdraw_the_last(alloc: Global, automatic: bool) -> Result<Worked, Fail> {
+        Ok(Worked {
+            before: two_wait(alloc, automatic)?,
+            command: withdraws("ALFA", "A-2")?,
         })
     }
 
@@ -192,10 +241,10 @@ impl Worked {
     }
 }
 
-// On an automatic day ALFA has 10 cents, and two orders of it wait.
-fn two_wait(alloc: Global) -> Result<Vec<Command>, Fail> {
+// On a day, automatic or not, ALFA has 10 cents, and two orders of it wait.
+fn two_wait(alloc: Global, automatic: bool) -> Result<Vec<Command>, Fail> {
     Ok(vec![in alloc;
-        opens_automatic()?,
+        opens_on(MONDAY, automatic)?,
         posts("ALFA", "P-1", 10)?,
         pays("ALFA", "A-1", "BETA", 60)?,
         pays("ALFA", "A-2", "GAMA", 10)?,
