@@ -63,9 +63,9 @@ pub trait BookFile: Sized {
     fn fault(refused: &Self::Refused) -> FileFault
         ensures { result ≡ facts.fault_of refused.now };
 
-    /// If commands with these replies were a session whatever a crash leaves, and what it leaves is whole and calm, then
-    /// the tables that a crash leaves hold a book that the session may find. The function does nothing: its contract is
-    /// the law.
+    /// If commands with these replies were a session whatever a crash leaves, and what it leaves is whole and calm,
+    /// then the tables that a crash leaves hold a book that the session may find. The function does nothing: its
+    /// contract is the law.
     fn what_a_session_leaves(desk: &Desk<Self::Kept>)
         ensures { (start : Book) (commands : List Command) (replies : List Reply)
             → Self.Kept.is_whole desk.now.keeper

@@ -1,8 +1,8 @@
 //! The tables of routes.
 //!
 //! To add a route, add its variant and path to `BankRoute` or `OperatorRoute`, and a line here and in
-//! `specs/heads/Tables.antt`. The compiler does not see a variant without a line: a request for it would find no route. A
-//! line in `whole_paths.rt` spares a path without a parameter these tables.
+//! `specs/heads/Tables.antt`. The compiler does not see a variant without a line: a request for it would find no route.
+//! A line in `whole_paths.rt` spares a path without a parameter these tables.
 ghost use Rattle.std.specs.Prelude.{◌≡◌, IfOk, OnOk};
 ghost use Rattle.matchit.specs.Route.{parse_route};
 ghost use Rattle.rtgs_http_requests.specs.heads.Tables.{holding, with_path, read_paths, command_paths};

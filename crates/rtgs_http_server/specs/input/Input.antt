@@ -43,8 +43,8 @@ FindsCaller Knows bearer (Err DirectoryFailed) =
 FindsCaller Knows bearer (Err (Reader failed)) = ⊥
 
 -- What the input asks for, or its fault, is this one, whoever the participants are that the directory knows. Even if
--- these may be none, there are participants for whom this is asked. The directory has failed only where the caller is to
--- be looked up. Where the reader fails, nothing is said.
+-- these may be none, there are participants for whom this is asked. The directory has failed only where the caller is
+-- to be looked up. Where the reader fails, nothing is said.
 abbrev pub Requests : (CodeOf → Type 0) → List ℕ → List ℕ → Result Asked Unread → Type 0
 Requests Knows operator input (Ok asked) =
     ((code_of : CodeOf) × AsksFor operator code_of input (Ok asked))

@@ -1,5 +1,5 @@
-//! Commands of an automatic day that free no order. The resolver is not asked after them, and the ledger is not copied: so
-//! they ask for no more memory than on a plain day.
+//! Commands of an automatic day that free no order. The resolver is not asked after them, and the ledger is not copied:
+//! so they ask for no more memory than on a plain day.
 use super::super::scarce::{InMemory, Submits, Worked, for_no_more_requests};
 use std::test::Fail;
 

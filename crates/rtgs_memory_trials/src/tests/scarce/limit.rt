@@ -23,8 +23,8 @@ const TUNABLES: &str = "glibc.malloc.tcache_count=0:glibc.malloc.mxfast=0";
 /// How many steps must go well, one after another, before no request is refused any more.
 const STEPS_THAT_GO_WELL: usize = 8;
 
-/// By how many steps two calls may differ that ask for the same memory, which may be parted otherwise. A call that copies
-/// a ledger takes over a hundred more.
+/// By how many steps two calls may differ that ask for the same memory, which may be parted otherwise. A call that
+/// copies a ledger takes over a hundred more.
 const STEPS_OF_NO_COPY: usize = 32;
 
 /// How many steps there are at most.
