@@ -8,7 +8,7 @@ use Rattle.std.specs.Ordering.{nat_cmp}
 use Rattle.std.specs.Str.{bytes_eq}
 use Rattle.std.specs.Cmp.Lexicographic.{slice_cmp}
 use Rattle.rtgs_book.specs.Books.{Book, Posting, Order, is_settled}
-use Rattle.rtgs_book.specs.Lookup.{accounts, is_participant}
+use Rattle.rtgs_book.specs.Lookup.{codes_of, is_participant}
 use Rattle.rtgs_book.specs.IntSum.{int_sum_by}
 use Rattle.rtgs_book.specs.Balance.{balance, total, issued, gain, postings_of}
 use Rattle.rtgs_book.specs.Soundness.{CodesRise, PartiesAreKnown, has_parties}
@@ -51,12 +51,12 @@ batch_gains_none codes rise (o ∷ os) h =
 
 -- the parties of an order have accounts
 parties_known : (book : Book) → PartiesAreKnown book → AllByRecursion
-    (λ (o : Order). (list_any (bytes_eq o.sender) (accounts book) ≡ true)
-    × (list_any (bytes_eq o.receiver) (accounts book) ≡ true)) book.orders
+    (λ (o : Order). (list_any (bytes_eq o.sender) (codes_of book) ≡ true)
+    × (list_any (bytes_eq o.receiver) (codes_of book) ≡ true)) book.orders
 unfolding is_participant
 parties_known book h = all_weaker (λ o. has_parties book o ≡ true)
-    (λ (o : Order). (list_any (bytes_eq o.sender) (accounts book) ≡ true)
-    × (list_any (bytes_eq o.receiver) (accounts book) ≡ true)) (λ o e. (
+    (λ (o : Order). (list_any (bytes_eq o.sender) (codes_of book) ≡ true)
+    × (list_any (bytes_eq o.receiver) (codes_of book) ≡ true)) (λ o e. (
       and_left _ _ (and_left _ _ e),
       and_right _ _
           (and_left _ _ e),
@@ -90,9 +90,9 @@ pub total_from_rules : (book : Book) → CodesRise book → PartiesAreKnown book
 unfolding total issued balance is_participant
 total_from_rules book codes parties =
     int_sum_by-both (λ code. int_sum_by (λ (p : Posting). p.cents) (postings_of book code))
-    (λ code. int_sum_by (gain code) (filter is_settled book.orders)) (accounts book)
-    ∙ both _ _ (postings_in_accounts (accounts book) codes.0 book.postings parties.1)
-    (batch_gains_none (accounts book) codes.0 (filter is_settled book.orders)
+    (λ code. int_sum_by (gain code) (filter is_settled book.orders)) (codes_of book)
+    ∙ both _ _ (postings_in_accounts (codes_of book) codes.0 book.postings parties.1)
+    (batch_gains_none (codes_of book) codes.0 (filter is_settled book.orders)
     (all_filter _ is_settled book.orders (parties_known book parties)))
   where
     both : (a b : ℤ) {c : ℤ} → a ≡ c → b ≡ pos 0 → a +ℤ b ≡ c

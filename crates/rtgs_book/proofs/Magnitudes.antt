@@ -7,7 +7,7 @@ use Rattle.rtgs_money.specs.declared.credit.TheConstants.Credit as Credit
 use Rattle.rtgs_money.specs.Amounts.{IsCredit}
 use Rattle.rtgs_book.specs.declared.limits.TheConstants.{LARGEST_BALANCE}
 use Rattle.rtgs_book.specs.Books.{Book, Participant, is_closed}
-use Rattle.rtgs_book.specs.Lookup.{has_code, participant_of, credit_of, accounts}
+use Rattle.rtgs_book.specs.Lookup.{has_code, participant_of, credit_of, codes_of}
 use Rattle.rtgs_book.specs.IntSum.{int_sum_by}
 use Rattle.rtgs_book.specs.Balance.{balance, floor, total}
 use Rattle.rtgs_book.specs.Laws.{BalancesFit}
@@ -60,11 +60,11 @@ unfolding total
 balances_small book h fits =
     let floors = all_weaker (λ code. floor book code ≤ℤ balance book code)
     (λ code. neg_ℤ (pos Credit.MAX) ≤ℤ balance book code)
-    (λ code k. let low = low_floor book code fits in omega (arith, ints)) (accounts book) h.floors in
-    let terms = high_terms (balance book) Credit.MAX (accounts book) floors in
+    (λ code k. let low = low_floor book code fits in omega (arith, ints)) (codes_of book) h.floors in
+    let terms = high_terms (balance book) Credit.MAX (codes_of book) floors in
     let few = h.codes_rise.1 in
     let all = h.total_fits in
     all_both (λ code. neg_ℤ (pos Credit.MAX) ≤ℤ balance book code)
-    (λ code. (balance book code +ℤ pos Credit.MAX) ≤ℤ (int_sum_by (balance book) (accounts book) +ℤ pos
-    (length (accounts book) * Credit.MAX))) (λ code. Within LARGEST_BALANCE (balance book code))
-    (λ code low high. (omega (arith, ints), omega (arith, ints))) (accounts book) floors terms.1
+    (λ code. (balance book code +ℤ pos Credit.MAX) ≤ℤ (int_sum_by (balance book) (codes_of book) +ℤ pos
+    (length (codes_of book) * Credit.MAX))) (λ code. Within LARGEST_BALANCE (balance book code))
+    (λ code low high. (omega (arith, ints), omega (arith, ints))) (codes_of book) floors terms.1

@@ -4,7 +4,7 @@ use Rattle.std.proofs.lemmas.Int.{ints}
 use Rattle.std.specs.List.{AllByRecursion, list_any}
 use Rattle.std.specs.Str.{bytes_eq}
 use Rattle.rtgs_book.specs.Books.{Book, Posting, Order, is_settled}
-use Rattle.rtgs_book.specs.Lookup.{accounts, is_participant}
+use Rattle.rtgs_book.specs.Lookup.{codes_of, is_participant}
 use Rattle.rtgs_book.specs.IntSum.{int_sum_by}
 use Rattle.rtgs_book.specs.Balance.{balance, gain}
 use Rattle.rtgs_book.specs.Soundness.{has_parties, IsSound}
@@ -34,17 +34,17 @@ pub balance_of_unknown : (book : Book) (code : List ℕ) → IsSound book → is
     → balance book code ≡ pos 0
 unfolding balance is_participant
 balance_of_unknown book code h unknown =
-    let unused : AllByRecursion (λ c. bytes_eq c code ≡ false) (accounts book) =
+    let unused : AllByRecursion (λ c. bytes_eq c code ≡ false) (codes_of book) =
     all_weaker (λ c. bytes_eq code c ≡ false) (λ c. bytes_eq c code ≡ false) (λ c e. bytes_eq_comm c code ∙ e)
-    (accounts book) (none_any (bytes_eq code) (accounts book) unknown) in
+    (codes_of book) (none_any (bytes_eq code) (codes_of book) unknown) in
     let parties : AllByRecursion (λ (o : Order). (bytes_eq o.sender code ≡ false) × (bytes_eq o.receiver code ≡ false))
     book.orders = all_weaker (λ o. has_parties book o ≡ true)
     (λ (o : Order). (bytes_eq o.sender code ≡ false) × (bytes_eq o.receiver code ≡ false))
     (λ o e. (
-      apart_from o.sender code (accounts book) unused (and_left _ _ (and_left _ _ e)),
-      apart_from o.receiver code (accounts book) unused (and_right _ _ (and_left _ _ e)),
+      apart_from o.sender code (codes_of book) unused (and_left _ _ (and_left _ _ e)),
+      apart_from o.receiver code (codes_of book) unused (and_right _ _ (and_left _ _ e)),
     )) book.orders h.parties.0 in
     let postings = no_postings code book.postings (all_weaker
-    (λ (p : Posting). list_any (bytes_eq p.code) (accounts book) ≡ true) (λ (p : Posting). bytes_eq p.code code ≡ false)
-    (λ p e. apart_from p.code code (accounts book) unused e) book.postings h.parties.1) in
+    (λ (p : Posting). list_any (bytes_eq p.code) (codes_of book) ≡ true) (λ (p : Posting). bytes_eq p.code code ≡ false)
+    (λ p e. apart_from p.code code (codes_of book) unused e) book.postings h.parties.1) in
     rw (postings, no_gains code book.orders parties) refl

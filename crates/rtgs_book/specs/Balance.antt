@@ -2,7 +2,7 @@
 use Rattle.std.specs.Prelude.{ℕ, ℤ, pos, neg_ℤ, ◌+ℤ◌, ◌-ℤ◌, if◌then◌else◌, List, filter}
 use Rattle.std.specs.Str.{bytes_eq}
 use Rattle.rtgs_book.specs.Books.{Book, Phase, Posting, Order, is_closed, is_settled}
-use Rattle.rtgs_book.specs.Lookup.{credit_of, accounts}
+use Rattle.rtgs_book.specs.Lookup.{credit_of, codes_of}
 use Rattle.rtgs_book.specs.IntSum.{int_sum_by}
 
 abbrev pub postings_of : Book → List ℕ → List Posting
@@ -35,4 +35,4 @@ issued book = int_sum_by (λ (posting : Posting). posting.cents) book.postings
 
 -- all balances together
 unfoldable pub total : Book → ℤ
-total book = int_sum_by (balance book) (accounts book)
+total book = int_sum_by (balance book) (codes_of book)

@@ -20,7 +20,7 @@ use Rattle.rtgs_book.specs.declared.limits.TheConstants.{LARGEST_TOTAL}
 use Rattle.rtgs_book.specs.Books.{Book, Day, NewDay, Closed, Open, CutOff, Participant, Posting, Order, NewOrder}
 use Rattle.rtgs_book.specs.Books.{OrderState, Queued, Held, Withdrawn, Rejected, is_closed, is_open, is_cut_off}
 use Rattle.rtgs_book.specs.Books.{is_queued, is_held, is_waiting, is_withdrawn_state, is_empty}
-use Rattle.rtgs_book.specs.Lookup.{has_code, accounts, participant_of, is_participant, order_named, posting_named}
+use Rattle.rtgs_book.specs.Lookup.{has_code, codes_of, participant_of, is_participant, order_named, posting_named}
 use Rattle.rtgs_book.specs.Balance.{balance, floor, total}
 use Rattle.rtgs_book.specs.Queue.{queue, waiting}
 use Rattle.rtgs_book.specs.Choice.{Choice, is_chosen, chosen}
@@ -286,10 +286,10 @@ let_in book is_in date = with_altered book is_in (entered date)
 abbrev pub with_day : Book → Day → Book
 with_day book day = record book { day = day }
 
--- the day was opened with this choice
-abbrev pub has_choice : Bool → Day → Bool
-has_choice true day = day.automatic
-has_choice false day = not day.automatic
+-- the day is automatic, or is not, as this says
+abbrev pub is_automatic_as : Bool → Day → Bool
+is_automatic_as true day = day.automatic
+is_automatic_as false day = not day.automatic
 
 -- the day as it stands once it is opened
 abbrev pub opened_day : NewDay → Day
@@ -298,7 +298,7 @@ opened_day new_day = record { date = Some new_day.date; phase = Open; automatic 
 unfoldable pub open_day : Book → NewDay → Outcome
 open_day book new_day =
     first_of book (
-    (is_open book.day.phase && is_on book new_day.date && has_choice new_day.automatic book.day, repeated)
+    (is_open book.day.phase && is_on book new_day.date && is_automatic_as new_day.automatic book.day, repeated)
     ∷ (not (is_closed book.day.phase), Err WrongPhase)
     ∷ (not (is_later new_day.date book.day.date), Err WrongDate)
     ∷ (is_weekend new_day.date, Err Weekend)
@@ -324,7 +324,7 @@ resolve book choice =
 
 -- the participants below zero, in code order
 unfoldable pub overdrawn : Book → List (List ℕ)
-overdrawn book = filter (λ code. int_lt (balance book code) (pos 0)) (accounts book)
+overdrawn book = filter (λ code. int_lt (balance book code) (pos 0)) (codes_of book)
 
 abbrev pub first_code : List (List ℕ) → List ℕ
 first_code [] = []

@@ -11,7 +11,7 @@ use Rattle.rtgs_book.specs.Books.{Book}
 use Rattle.rtgs_book.specs.Soundness.{OrdersAreNumbered, PostingsAreNumbered, MarksAreNumbered, CodesRise}
 use Rattle.rtgs_book.specs.Soundness.{KeysAreDistinct, OrderReferencesAreDistinct, PostingReferencesAreDistinct}
 use Rattle.rtgs_book.specs.Soundness.{PartiesAreKnown, MarksFitOrders, QueuesFit, DatesFit, FloorsHold, TotalFits}
-use Rattle.rtgs_book.specs.Soundness.{ChoiceFits}
+use Rattle.rtgs_book.specs.Soundness.{AutomaticFits}
 use Rattle.rtgs_book.specs.Calm.{IsCalm}
 
 -- the number by which a rule is known
@@ -48,7 +48,7 @@ Keeps book Dates = DatesFit book
 Keeps book Floors = FloorsHold book
 Keeps book Total = TotalFits book
 Keeps book StoredBalances = ⊤
-Keeps book AutomaticDay = ChoiceFits book
+Keeps book AutomaticDay = AutomaticFits book
 Keeps book Calm = IsCalm book
 
 -- the book keeps each rule before this one

@@ -6,7 +6,7 @@ use Rattle.rtgs_book.specs.declared.command.Command.TheVariants.{SetCredit, Post
 use Rattle.rtgs_book.specs.declared.answer.Answer.TheVariants.{Posted}
 use Rattle.rtgs_book.specs.declared.limits.TheConstants.{LARGEST_BALANCE}
 use Rattle.rtgs_book.specs.Books.{Book, Order, Mark, is_settled}
-use Rattle.rtgs_book.specs.Lookup.{accounts}
+use Rattle.rtgs_book.specs.Lookup.{codes_of}
 use Rattle.rtgs_book.specs.Balance.{balance}
 use Rattle.rtgs_book.specs.Outcome.{Command, Reply, OwnReply, own_of}
 use Rattle.rtgs_book.specs.Procedure.{Has}
@@ -44,4 +44,4 @@ NothingSettlesEarly book = AllByRecursion (SettlesInTime book.marks) book.orders
 
 -- every balance is at most LARGEST_BALANCE in magnitude, which is far below 2^63
 abbrev pub BalancesFit : Book → Type 0
-BalancesFit book = AllByRecursion (λ code. Within LARGEST_BALANCE (balance book code)) (accounts book)
+BalancesFit book = AllByRecursion (λ code. Within LARGEST_BALANCE (balance book code)) (codes_of book)

@@ -12,7 +12,7 @@ use Rattle.rtgs_book.specs.declared.limits.TheConstants.{MOST_PARTICIPANTS, LONG
 use Rattle.rtgs_book.specs.declared.limits.TheConstants.{LARGEST_TOTAL}
 use Rattle.rtgs_book.specs.Books.{Book, Participant, Posting, Order, OrderState, Mark, Held, Settled, Withdrawn}
 use Rattle.rtgs_book.specs.Books.{is_closed, is_queued, is_held_state, has_due}
-use Rattle.rtgs_book.specs.Lookup.{accounts, is_participant}
+use Rattle.rtgs_book.specs.Lookup.{codes_of, is_participant}
 use Rattle.rtgs_book.specs.Balance.{balance, floor, total}
 use Rattle.rtgs_book.specs.Queue.{waiting}
 use Rattle.rtgs_book.specs.Settle.{today}
@@ -35,7 +35,7 @@ abbrev pub AreCodes : List (List ℕ) → Type 0
 AreCodes codes = IsStrictlySortedBy (slice_cmp nat_cmp) codes × (length codes ≤ MOST_PARTICIPANTS)
 
 abbrev pub CodesRise : Book → Type 0
-CodesRise book = AreCodes (accounts book)
+CodesRise book = AreCodes (codes_of book)
 
 abbrev pub KeysAreDistinct : Book → Type 0
 KeysAreDistinct book = IsDistinct bytes_eq (map (λ (p : Participant). p.key) book.participants)
@@ -89,7 +89,7 @@ MarksFitOrders book =
 -- queued order is of the day
 pub record QueuesFit (book : Book) : Type 0 where
   pub closed : IsTrue (is_closed book.day.phase) → filter is_queued book.orders ≡ []
-  pub short : AllByRecursion (λ code. length (waiting book code) ≤ LONGEST_QUEUE) (accounts book)
+  pub short : AllByRecursion (λ code. length (waiting book code) ≤ LONGEST_QUEUE) (codes_of book)
   pub of_the_day : AllByRecursion (λ (o : Order). o.date ≡ today book) (filter is_queued book.orders)
 
 -- the dates don't fall along the list, and none is after the last
@@ -124,11 +124,11 @@ pub record DatesFit (book : Book) : Type 0 where
   pub postings : NeverFall (today book) (map (λ (p : Posting). unwrap_or p.date 0) book.postings)
 
 -- no day is automatic while the desk is closed
-abbrev pub ChoiceFits : Book → Type 0
-ChoiceFits book = IsTrue (is_closed book.day.phase) → book.day.automatic ≡ false
+abbrev pub AutomaticFits : Book → Type 0
+AutomaticFits book = IsTrue (is_closed book.day.phase) → book.day.automatic ≡ false
 
 abbrev pub FloorsHold : Book → Type 0
-FloorsHold book = AllByRecursion (λ code. floor book code ≤ℤ balance book code) (accounts book)
+FloorsHold book = AllByRecursion (λ code. floor book code ≤ℤ balance book code) (codes_of book)
 
 abbrev pub TotalFits : Book → Type 0
 TotalFits book = total book ≤ℤ pos LARGEST_TOTAL
@@ -148,4 +148,4 @@ pub record IsSound (book : Book) : Type 0 where
   pub dates : DatesFit book
   pub floors : FloorsHold book
   pub total_fits : TotalFits book
-  pub choice_fits : ChoiceFits book
+  pub automatic_fits : AutomaticFits book

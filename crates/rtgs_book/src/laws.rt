@@ -10,7 +10,7 @@ ghost use Rattle.std.specs.Str.{bytes_eq};
 ghost use Rattle.rtgs_book.specs.Books.{is_queued, is_settled, is_settled_state, new_book};
 ghost use Rattle.rtgs_book.specs.Commands.{let_in, with_state};
 ghost use Rattle.rtgs_book.specs.IntSum.{int_sum_by};
-ghost use Rattle.rtgs_book.specs.Lookup.{accounts, is_participant};
+ghost use Rattle.rtgs_book.specs.Lookup.{codes_of, is_participant};
 ghost use Rattle.rtgs_book.specs.Laws.{BalancesFit, NothingSettlesEarly};
 ghost use Rattle.rtgs_book.specs.Procedure.{Reaches};
 ghost use Rattle.rtgs_book.specs.Queue.{queue};
@@ -62,7 +62,7 @@ pub fn rest_stays_queued()
 /// Where the published procedure stops, as nobody is short, its choice is the greatest.
 pub fn procedure_finds_the_greatest()
     ensures { (book : Book) (choice : Choice) → Reaches book choice
-        → AllByRecursion (λ code. floor book code ≤ℤ balance_after book choice code) (accounts book)
+        → AllByRecursion (λ code. floor book code ≤ℤ balance_after book choice code) (codes_of book)
         → IsGreatest book choice }
 {}
 

@@ -7,7 +7,7 @@ use Rattle.std.proofs.lemmas.List.Sums.{sum_by-cons}
 use Rattle.rtgs_book.specs.declared.book.Book.{Book}
 use Rattle.rtgs_book.specs.declared.order.Order.{Order}
 use Rattle.rtgs_book.specs.declared.limits.TheConstants.{MOST_PARTICIPANTS, LONGEST_QUEUE, MOST_QUEUED}
-use Rattle.rtgs_book.specs.Lookup.{accounts}
+use Rattle.rtgs_book.specs.Lookup.{codes_of}
 use Rattle.rtgs_book.specs.Queue.{queue, waiting}
 use Rattle.rtgs_book.specs.declared.order_state.OrderState.{OrderState}
 use Rattle.rtgs_book.specs.declared.order_state.OrderState.TheVariants.{Queued, Held, Settled, Withdrawn, Rejected}
@@ -25,7 +25,7 @@ use Rattle.rtgs_choices.proofs.Inputs.{length-queues, queue_at, by_code-at}
 use Rattle.rtgs_choices.proofs.Chosen.{ChosenAreBeginnings, Agree, sum_by-chosen, sum_by-beginning, after_is}
 
 -- as many payments as the book has queued for the participant
-pub queue_length : (book : Book) (i : ℕ) → i < length (accounts book)
+pub queue_length : (book : Book) (i : ℕ) → i < length (codes_of book)
     → length (queue_of (queues_of book) i) ≡ length (queue book (code_at book i))
 queue_length book i less = ap length (queue_at book i less) ∙ length-map (queue book (code_at book i)) (payment_of book)
 
@@ -51,16 +51,16 @@ pub payments-le : (book : Book) → IsSound book → payment_count (queues_of bo
 unfolding payment_count
 payments-le book sound =
     let count = length-queues book in
-    let codes : length (accounts book) ≤ MOST_PARTICIPANTS = sound.codes_rise.1 in
+    let codes : length (codes_of book) ≤ MOST_PARTICIPANTS = sound.codes_rise.1 in
     let each = sum_below-bound (length (queues_of book)) (λ i. length (queue_of (queues_of book) i))
     (λ i less. short i (omega arith)) in
     omega arith
   where
-    short : (i : ℕ) → i < length (accounts book) → length (queue_of (queues_of book) i) ≤ LONGEST_QUEUE
+    short : (i : ℕ) → i < length (codes_of book) → length (queue_of (queues_of book) i) ≤ LONGEST_QUEUE
     short i less =
         let long = queue_length book i less in
         let here : length (waiting book (code_at book i)) ≤ LONGEST_QUEUE =
-        All-from_recursion (λ code. length (waiting book code) ≤ LONGEST_QUEUE) (accounts book) sound.queues.short i
+        All-from_recursion (λ code. length (waiting book code) ≤ LONGEST_QUEUE) (codes_of book) sound.queues.short i
         [] less in
         let part = queue_waits book (code_at book i) in
         omega arith
@@ -73,7 +73,7 @@ module _ (law : ChosenAreBeginnings) (book : Book) (lengths : ℕ → ℕ) (soun
   agree : Agree book (by_code book lengths) lengths
   agree i less = by_code-at book lengths i sound less
 
-  pub balances_agree : (i : ℕ) → i < length (accounts book) → balance_after book (by_code book lengths) (code_at book i)
+  pub balances_agree : (i : ℕ) → i < length (codes_of book) → balance_after book (by_code book lengths) (code_at book i)
       ≡ after (positions_of book) (queues_of book) lengths i
   balances_agree i less = sym (after_is law book sound (by_code book lengths) lengths agree i less)
 
@@ -82,10 +82,10 @@ module _ (law : ChosenAreBeginnings) (book : Book) (lengths : ℕ → ℕ) (soun
   count_is within =
       sym (length_is (chosen book (by_code book lengths)))
       ∙ sym (sum_by-chosen law book sound (by_code book lengths) (λ o. 1))
-      ∙ sum_below-same (length (accounts book)) _ lengths here
+      ∙ sum_below-same (length (codes_of book)) _ lengths here
       ∙ ap (λ (n : ℕ). sum_below n lengths) (sym (length-queues book))
     where
-      here : (i : ℕ) → i < length (accounts book) → sum_by (λ (o : Order). 1)
+      here : (i : ℕ) → i < length (codes_of book) → sum_by (λ (o : Order). 1)
           (take (by_code book lengths (code_at book i)) (queue book (code_at book i))) ≡ lengths i
       here i less =
           let as_long = agree i less in
@@ -101,6 +101,6 @@ module _ (law : ChosenAreBeginnings) (book : Book) (lengths : ℕ → ℕ) (soun
   unfolding sent
   value_is =
       sym (sum_by-chosen law book sound (by_code book lengths) (λ (o : Order). o.amount))
-      ∙ sum_below-same (length (accounts book)) _ _ (λ i less. sym
+      ∙ sum_below-same (length (codes_of book)) _ _ (λ i less. sym
       (sum_by-beginning law book sound (by_code book lengths) lengths agree (λ payment. payment.amount) i less))
       ∙ ap (λ (n : ℕ). sum_below n (sent (queues_of book) lengths)) (sym (length-queues book))

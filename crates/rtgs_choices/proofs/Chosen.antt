@@ -9,7 +9,7 @@ use Rattle.std.specs.List.{AllByRecursion}
 use Rattle.std.specs.Str.{bytes_eq}
 use Rattle.rtgs_book.specs.declared.book.Book.{Book}
 use Rattle.rtgs_book.specs.declared.order.Order.{Order}
-use Rattle.rtgs_book.specs.Lookup.{accounts}
+use Rattle.rtgs_book.specs.Lookup.{codes_of}
 use Rattle.rtgs_book.specs.IntSum.{int_sum_by}
 use Rattle.rtgs_book.specs.Balance.{balance, floor, gain}
 use Rattle.rtgs_book.specs.Queue.{queue}
@@ -63,30 +63,30 @@ chosen_have_indexes book choice sound = all_filter (HasIndexes book) _ book.orde
 
 -- a choice by index and one by code take as much of each participant's queue
 abbrev pub Agree : Book → Choice → (ℕ → ℕ) → Type 0
-Agree book choice lengths = (i : ℕ) → i < length (accounts book) → choice (code_at book i) ≡ lengths i
+Agree book choice lengths = (i : ℕ) → i < length (codes_of book) → choice (code_at book i) ≡ lengths i
 
 -- a sum over orders between participants, sender by sender
 pub sum_by-senders : (book : Book) (os : List Order) (part : List ℕ → List Order) → IsSound book
     → AllByRecursion (HasIndexes book) os
     → ((code : List ℕ) → filter (λ (o : Order). bytes_eq o.sender code) os ≡ part code)
-    → (f : Order → ℕ) → sum_below (length (accounts book)) (λ i. sum_by f (part (code_at book i))) ≡ sum_by f os
+    → (f : Order → ℕ) → sum_below (length (codes_of book)) (λ i. sum_by f (part (code_at book i))) ≡ sum_by f os
 sum_by-senders book os part sound have is f =
-    sum_below-same (length (accounts book)) _ (λ i. sum_by f (filter (λ (o : Order). index_of book o.sender == i) os))
+    sum_below-same (length (codes_of book)) _ (λ i. sum_by f (filter (λ (o : Order). index_of book o.sender == i) os))
     (λ i less. ap (sum_by f) (sym (filter_agree (λ (o : Order). index_of book o.sender == i)
     (λ (o : Order). bytes_eq o.sender (code_at book i)) (λ (o : Order). is_at book o.sender i sound less) os
     ∙ is (code_at book i))))
-    ∙ sum_by-parts f (λ (o : Order). index_of book o.sender) (length (accounts book)) os
-    (all_weaker (HasIndexes book) (λ (o : Order). index_of book o.sender < length (accounts book)) (λ o h. h.0) os have)
+    ∙ sum_by-parts f (λ (o : Order). index_of book o.sender) (length (codes_of book)) os
+    (all_weaker (HasIndexes book) (λ (o : Order). index_of book o.sender < length (codes_of book)) (λ o h. h.0) os have)
 
 module _ (law : ChosenAreBeginnings) (book : Book) (sound : IsSound book) (choice : Choice) where
-  pub sum_by-chosen : (f : Order → ℕ) → sum_below (length (accounts book))
+  pub sum_by-chosen : (f : Order → ℕ) → sum_below (length (codes_of book))
       (λ i. sum_by f (take (choice (code_at book i)) (queue book (code_at book i)))) ≡ sum_by f (chosen book choice)
   sum_by-chosen = sum_by-senders book (chosen book choice) (λ code. take (choice code) (queue book code)) sound
       (chosen_have_indexes book choice sound) (λ code. law book choice code sound.orders_numbered)
 
   module _ (lengths : ℕ → ℕ) (agree : Agree book choice lengths) where
     -- what is chosen of a queue, as the resolver sees it
-    pub sum_by-beginning : (f : Payment → ℕ) (i : ℕ) → i < length (accounts book)
+    pub sum_by-beginning : (f : Payment → ℕ) (i : ℕ) → i < length (codes_of book)
         → sum_by f (take (lengths i) (queue_of (queues_of book) i))
         ≡ sum_by (λ o. f (payment_of book o)) (take (choice (code_at book i)) (queue book (code_at book i)))
     sum_by-beginning f i less =
@@ -96,19 +96,19 @@ module _ (law : ChosenAreBeginnings) (book : Book) (sound : IsSound book) (choic
         ∙ ap (λ (n : ℕ). sum_by (λ o. f (payment_of book o)) (take n (queue book (code_at book i))))
         (sym (agree i less))
 
-    received_is : (p : ℕ) → p < length (accounts book) → received (queues_of book) lengths p
+    received_is : (p : ℕ) → p < length (codes_of book) → received (queues_of book) lengths p
         ≡ sum_by (gets (code_at book p)) (chosen book choice)
     unfolding received
     received_is p less =
         ap (λ (n : ℕ). sum_below n (λ i. sum_by (amount_to p) (take (lengths i) (queue_of (queues_of book) i))))
         (length-queues book)
-        ∙ sum_below-same (length (accounts book)) _ _ (λ i below. sum_by-beginning (amount_to p) i below
+        ∙ sum_below-same (length (codes_of book)) _ _ (λ i below. sum_by-beginning (amount_to p) i below
         ∙ sum_by-same (λ o. amount_to p (payment_of book o)) (gets (code_at book p))
         (λ o. ap (λ (t : Bool). cond t o.amount 0) (is_at book o.receiver p sound less))
         (take (choice (code_at book i)) (queue book (code_at book i))))
         ∙ sum_by-chosen (gets (code_at book p))
 
-    sent_is : (p : ℕ) → p < length (accounts book) → sent (queues_of book) lengths p
+    sent_is : (p : ℕ) → p < length (codes_of book) → sent (queues_of book) lengths p
         ≡ sum_by (gives (code_at book p)) (chosen book choice)
     unfolding sent
     sent_is p less =
@@ -117,16 +117,16 @@ module _ (law : ChosenAreBeginnings) (book : Book) (sound : IsSound book) (choic
         ∙ sum_by-filter (λ (o : Order). o.amount) (λ (o : Order). bytes_eq o.sender (code_at book p))
         (chosen book choice)
 
-    balance_is : (p : ℕ) → p < length (accounts book) → (resolver.position_of (positions_of book) p).balance
+    balance_is : (p : ℕ) → p < length (codes_of book) → (resolver.position_of (positions_of book) p).balance
         ≡ balance book (code_at book p)
     balance_is p less i = (position_at book p less i).balance
 
-    pub floor_is : (p : ℕ) → p < length (accounts book) → (resolver.position_of (positions_of book) p).floor
+    pub floor_is : (p : ℕ) → p < length (codes_of book) → (resolver.position_of (positions_of book) p).floor
         ≡ floor book (code_at book p)
     floor_is p less i = (position_at book p less i).floor
 
     -- both judge by the same balance
-    pub after_is : (p : ℕ) → p < length (accounts book) → after (positions_of book) (queues_of book) lengths p
+    pub after_is : (p : ℕ) → p < length (codes_of book) → after (positions_of book) (queues_of book) lengths p
         ≡ balance_after book choice (code_at book p)
     unfolding balance_after
     after_is p less =

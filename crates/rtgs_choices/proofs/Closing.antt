@@ -16,7 +16,7 @@ use Rattle.rtgs_book.specs.declared.phase.Phase.{Phase}
 use Rattle.rtgs_book.specs.declared.phase.Phase.TheVariants.{Closed, Open, CutOff}
 use Rattle.rtgs_book.specs.Books.{is_closed, is_cut_off, is_empty, is_queued, is_queued_state, is_settled}
 use Rattle.rtgs_book.specs.Books.{is_settled_state}
-use Rattle.rtgs_book.specs.Lookup.{accounts}
+use Rattle.rtgs_book.specs.Lookup.{codes_of}
 use Rattle.rtgs_book.specs.Balance.{balance}
 use Rattle.rtgs_book.specs.Queue.{queued_numbers}
 use Rattle.rtgs_book.specs.Choice.{Choice, chosen, IsGreatest}
@@ -54,7 +54,7 @@ StatesOneByOne = (book : Book) (state : OrderState) (numbers : List ℕ)
 -- the numbers in the queues are those of the queued orders
 abbrev QueuedAreNumbered : Book → Type 0
 QueuedAreNumbered book = AllByRecursion (λ order. is_queued order
-    ≡ is_numbered (flat_map (queued_numbers book.orders) (accounts book)) order) book.orders
+    ≡ is_numbered (flat_map (queued_numbers book.orders) (codes_of book)) order) book.orders
 
 -- orders that get another state, and are settled neither before nor after, move no balance
 abbrev BalanceAfterRestating : Type 0
@@ -63,7 +63,7 @@ BalanceAfterRestating = (book : Book) (is_in : Order → Bool) (state : OrderSta
     → is_settled_state state ≡ false → balance (with_state book is_in state) code ≡ balance book code
 
 abbrev numbers : Book → List ℕ
-numbers book = flat_map (queued_numbers book.orders) (accounts book)
+numbers book = flat_map (queued_numbers book.orders) (codes_of book)
 
 pub rejected : (book : Book) → StatesOneByOne → QueuedAreNumbered book
     → changed book (closing_rows book) ≡ closed_book book
@@ -93,17 +93,17 @@ same_balance book law code = law book is_queued Rejected code
 pub moves_nothing : (book : Book) → BalanceAfterRestating → SetsBalances book (closing_rows book) (closed_book book)
 moves_nothing book law = all_of (λ code. balance_set code (closing_rows book)
     ≡ cond (int_eq (balance book code) (balance (closed_book book) code)) None (Some (balance (closed_book book) code)))
-    at (accounts (closed_book book))
+    at (codes_of (closed_book book))
   where
     at : (code : List ℕ) → balance_set code (closing_rows book)
         ≡ cond (int_eq (balance book code) (balance (closed_book book) code)) None
         (Some (balance (closed_book book) code))
     at code =
-        balance_set-states code Rejected (flat_map (queued_numbers book.orders) (accounts book))
+        balance_set-states code Rejected (flat_map (queued_numbers book.orders) (codes_of book))
         (SetDay (record book.day { phase = Closed; automatic = false }) ∷ [])
         ∙ rw (same_balance book law code, int_eq_equiv.refl (balance book code)) refl
 
 pub adds_nobody : (new : Book) (all : List RowChange) (book : Book)
     → AllByRecursion (StartsEmpty new all) (closing_rows book)
-adds_nobody new all book = added-states new all Rejected (flat_map (queued_numbers book.orders) (accounts book))
+adds_nobody new all book = added-states new all Rejected (flat_map (queued_numbers book.orders) (codes_of book))
     (SetDay (record book.day { phase = Closed; automatic = false }) ∷ []) (tt, tt)

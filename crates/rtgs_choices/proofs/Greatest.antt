@@ -4,7 +4,7 @@ use Rattle.std.proofs.lemmas.Int.{ints}
 use Rattle.std.proofs.lemmas.List.Elements.{All-from_recursion, recursion_from_All, All-from_get_or}
 use Rattle.std.specs.List.{AllByRecursion}
 use Rattle.rtgs_book.specs.declared.book.Book.{Book}
-use Rattle.rtgs_book.specs.Lookup.{accounts, is_participant}
+use Rattle.rtgs_book.specs.Lookup.{codes_of, is_participant}
 use Rattle.rtgs_book.specs.Balance.{floor}
 use Rattle.rtgs_book.specs.Queue.{queue}
 use Rattle.rtgs_book.specs.Choice.{Choice, balance_after, IsFeasible, IsGreatest}
@@ -16,7 +16,7 @@ use Rattle.rtgs_choices.proofs.Agree.{queue_length}
 use Rattle.rtgs_choices.proofs.Chosen.{ChosenAreBeginnings, floor_is, after_is}
 
 module _ (law : ChosenAreBeginnings) (book : Book) (sound : IsSound book) where
-  is_below : (p : ℕ) → p < length (queues_of book) → p < length (accounts book)
+  is_below : (p : ℕ) → p < length (queues_of book) → p < length (codes_of book)
   is_below p less = let same = length-queues book in omega arith
 
   -- a choice of codes as one of indexes
@@ -28,13 +28,13 @@ module _ (law : ChosenAreBeginnings) (book : Book) (sound : IsSound book) where
     covered = λ p less. covered p (is_below p less);
   }
     where
-      covered : (p : ℕ) → p < length (accounts book) → resolver.IsCovered (positions_of book) (queues_of book)
+      covered : (p : ℕ) → p < length (codes_of book) → resolver.IsCovered (positions_of book) (queues_of book)
           (λ i. other (code_at book i)) p
       covered p less =
           let floors = floor_is law book sound other (λ i. other (code_at book i)) (λ i _. refl) p less in
           let balances = after_is law book sound other (λ i. other (code_at book i)) (λ i _. refl) p less in
           let holds : floor book (code_at book p) ≤ℤ balance_after book other (code_at book p) =
-          All-from_recursion (λ code. floor book code ≤ℤ balance_after book other code) (accounts book)
+          All-from_recursion (λ code. floor book code ≤ℤ balance_after book other code) (codes_of book)
           feasible.covered p [] less in
           omega (arith, ints)
 
@@ -55,12 +55,12 @@ module _ (law : ChosenAreBeginnings) (book : Book) (sound : IsSound book) where
         by false e = omega arith
 
     covered : resolver.IsFeasible (positions_of book) (queues_of book) lengths
-        → AllByRecursion (λ code. floor book code ≤ℤ balance_after book (by_code book lengths) code) (accounts book)
+        → AllByRecursion (λ code. floor book code ≤ℤ balance_after book (by_code book lengths) code) (codes_of book)
     covered feasible = recursion_from_All (λ code. floor book code ≤ℤ balance_after book (by_code book lengths) code)
-        (accounts book) (All-from_get_or (λ code. floor book code ≤ℤ balance_after book (by_code book lengths) code)
-        (accounts book) [] here)
+        (codes_of book) (All-from_get_or (λ code. floor book code ≤ℤ balance_after book (by_code book lengths) code)
+        (codes_of book) [] here)
       where
-        here : (p : ℕ) → p < length (accounts book) → floor book (code_at book p) ≤ℤ balance_after book
+        here : (p : ℕ) → p < length (codes_of book) → floor book (code_at book p) ≤ℤ balance_after book
             (by_code book lengths) (code_at book p)
         here p less =
             let floors = floor_is law book sound (by_code book lengths) lengths

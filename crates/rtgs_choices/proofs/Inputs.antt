@@ -9,7 +9,7 @@ use Rattle.std.specs.Cmp.Lexicographic.{bytes_decides}
 use Rattle.rtgs_book.specs.declared.book.Book.{Book}
 use Rattle.rtgs_book.specs.declared.order.Order.{Order}
 use Rattle.rtgs_book.specs.Books.{is_queued}
-use Rattle.rtgs_book.specs.Lookup.{accounts, is_participant}
+use Rattle.rtgs_book.specs.Lookup.{codes_of, is_participant}
 use Rattle.rtgs_book.specs.Balance.{balance, floor}
 use Rattle.rtgs_book.specs.Queue.{queue}
 use Rattle.rtgs_book.specs.Soundness.{IsSound, has_parties}
@@ -23,45 +23,45 @@ use Rattle.rtgs_choices.proofs.Indexes.{index_in-lt, code_at_index, index_of_cod
 use Rattle.rtgs_lists.proofs.Bools.{and_right_false}
 use Rattle.rtgs_lists.proofs.Lists.{all_filter, all_weaker}
 
-pub length-positions : (book : Book) → length (positions_of book) ≡ length (accounts book)
+pub length-positions : (book : Book) → length (positions_of book) ≡ length (codes_of book)
 unfolding positions_of
-length-positions book = length-map (accounts book) (position_of book)
+length-positions book = length-map (codes_of book) (position_of book)
 
-pub length-queues : (book : Book) → length (queues_of book) ≡ length (accounts book)
+pub length-queues : (book : Book) → length (queues_of book) ≡ length (codes_of book)
 unfolding queues_of
-length-queues book = length-map (accounts book) (payments_of book)
+length-queues book = length-map (codes_of book) (payments_of book)
 
-pub position_at : (book : Book) (p : ℕ) → p < length (accounts book)
+pub position_at : (book : Book) (p : ℕ) → p < length (codes_of book)
     → resolver.position_of (positions_of book) p ≡ position_of book (code_at book p)
 unfolding positions_of
-position_at book p less = get_or-map (position_of book) (accounts book) p [] _ less
+position_at book p less = get_or-map (position_of book) (codes_of book) p [] _ less
 
-pub queue_at : (book : Book) (p : ℕ) → p < length (accounts book)
+pub queue_at : (book : Book) (p : ℕ) → p < length (codes_of book)
     → queue_of (queues_of book) p ≡ payments_of book (code_at book p)
 unfolding queues_of
-queue_at book p less = get_or-map (payments_of book) (accounts book) p [] [] less
+queue_at book p less = get_or-map (payments_of book) (codes_of book) p [] [] less
 
 -- ---- indexes
 
 pub index_of-lt : (book : Book) (code : List ℕ) → is_participant book code ≡ true
-    → index_of book code < length (accounts book)
+    → index_of book code < length (codes_of book)
 unfolding is_participant index_of
-index_of-lt book code e = index_in-lt (accounts book) code e
+index_of-lt book code e = index_in-lt (codes_of book) code e
 
 pub code_at-index_of : (book : Book) (code : List ℕ) → is_participant book code ≡ true
     → code ≡ code_at book (index_of book code)
 unfolding index_of
-code_at-index_of book code e = code_at_index (accounts book) code (index_of-lt book code e)
+code_at-index_of book code e = code_at_index (codes_of book) code (index_of-lt book code e)
 
-pub is_at : (book : Book) (code : List ℕ) (p : ℕ) → IsSound book → p < length (accounts book)
+pub is_at : (book : Book) (code : List ℕ) (p : ℕ) → IsSound book → p < length (codes_of book)
     → (index_of book code == p) ≡ bytes_eq code (code_at book p)
 unfolding index_of
-is_at book code p sound less = has_index (accounts book) code p sound.codes_rise.0 less
+is_at book code p sound less = has_index (codes_of book) code p sound.codes_rise.0 less
 
-pub index_of-code_at : (book : Book) (p : ℕ) → IsSound book → p < length (accounts book)
+pub index_of-code_at : (book : Book) (p : ℕ) → IsSound book → p < length (codes_of book)
     → index_of book (code_at book p) ≡ p
 unfolding index_of
-index_of-code_at book p sound less = index_of_code_at (accounts book) p sound.codes_rise.0 less
+index_of-code_at book p sound less = index_of_code_at (codes_of book) p sound.codes_rise.0 less
 
 pub in_codes : (codes : List (List ℕ)) (p : ℕ) → p < length codes → list_any (bytes_eq (get_or codes p [])) codes ≡ true
 in_codes [] p less = absurd (omega arith)
@@ -73,12 +73,12 @@ in_codes (c ∷ codes) (suc p) less = by (bytes_eq (get_or codes p []) c) (in_co
     by true e = refl
     by false e = e
 
-pub code_at-participant : (book : Book) (p : ℕ) → p < length (accounts book)
+pub code_at-participant : (book : Book) (p : ℕ) → p < length (codes_of book)
     → is_participant book (code_at book p) ≡ true
 unfolding is_participant
-code_at-participant book p less = in_codes (accounts book) p less
+code_at-participant book p less = in_codes (codes_of book) p less
 
-pub by_code-at : (book : Book) (lengths : ℕ → ℕ) (p : ℕ) → IsSound book → p < length (accounts book)
+pub by_code-at : (book : Book) (lengths : ℕ → ℕ) (p : ℕ) → IsSound book → p < length (codes_of book)
     → by_code book lengths (code_at book p) ≡ lengths p
 unfolding by_code
 by_code-at book lengths p sound less = rw (code_at-participant book p less)
@@ -88,8 +88,8 @@ by_code-at book lengths p sound less = rw (code_at-participant book p less)
 
 -- both parties have an index
 abbrev pub HasIndexes : Book → Order → Type 0
-HasIndexes book o = (index_of book o.sender < length (accounts book))
-    × (index_of book o.receiver < length (accounts book))
+HasIndexes book o = (index_of book o.sender < length (codes_of book))
+    × (index_of book o.receiver < length (codes_of book))
 
 both_parties : (a b c : Bool) → (a && b && c) ≡ true → (a ≡ true) × (b ≡ true)
 both_parties true true c e = (refl, refl)
@@ -138,25 +138,25 @@ no_queue book code sound stranger =
 pub floored : (book : Book) → IsSound book → AreFloored (positions_of book)
 unfolding positions_of
 floored book sound = All-map (λ (position : Position). position.floor ≤ℤ position.balance) (position_of book)
-    (accounts book) (All-from_recursion (λ code. floor book code ≤ℤ balance book code) (accounts book) sound.floors)
+    (codes_of book) (All-from_recursion (λ code. floor book code ≤ℤ balance book code) (codes_of book) sound.floors)
 
 -- a payment's receiver has an index below this
 abbrev IsTo : ℕ → Payment → Type 0
 IsTo n payment = payment.receiver < n
 
-receivers : (book : Book) (code : List ℕ) → IsSound book → All (IsTo (length (accounts book))) (payments_of book code)
+receivers : (book : Book) (code : List ℕ) → IsSound book → All (IsTo (length (codes_of book))) (payments_of book code)
 unfolding queue
 receivers book code sound =
-    All-map (IsTo (length (accounts book))) (payment_of book) (queue book code)
-    (All-from_recursion (λ o. IsTo (length (accounts book)) (payment_of book o)) (queue book code)
-    (all_filter (λ (o : Order). IsTo (length (accounts book)) (payment_of book o)) _ book.orders
-    (all_weaker (HasIndexes book) (λ (o : Order). IsTo (length (accounts book)) (payment_of book o))
+    All-map (IsTo (length (codes_of book))) (payment_of book) (queue book code)
+    (All-from_recursion (λ o. IsTo (length (codes_of book)) (payment_of book o)) (queue book code)
+    (all_filter (λ (o : Order). IsTo (length (codes_of book)) (payment_of book o)) _ book.orders
+    (all_weaker (HasIndexes book) (λ (o : Order). IsTo (length (codes_of book)) (payment_of book o))
     (λ o h. omega arith) book.orders (parties_have_indexes book sound))))
 
-all_queues : (book : Book) → IsSound book → All (λ queue. All (IsTo (length (accounts book))) queue) (queues_of book)
+all_queues : (book : Book) → IsSound book → All (λ queue. All (IsTo (length (codes_of book))) queue) (queues_of book)
 unfolding queues_of
-all_queues book sound = All-map (λ queue. All (IsTo (length (accounts book))) queue) (payments_of book) (accounts book)
-    (λ k d less. receivers book (get_or (accounts book) k d) sound)
+all_queues book sound = All-map (λ queue. All (IsTo (length (codes_of book))) queue) (payments_of book) (codes_of book)
+    (λ k d less. receivers book (get_or (codes_of book) k d) sound)
 
 pub in_range : (book : Book) → IsSound book → AreInRange (queues_of book)
 in_range book sound = subst (λ (n : ℕ). All (λ queue. All (IsTo n) queue) (queues_of book)) (sym (length-queues book))

@@ -10,7 +10,7 @@ use Rattle.rtgs_book.specs.declared.change.RowChange.TheVariants.{AddParticipant
 use Rattle.rtgs_book.specs.declared.change.RowChange.TheVariants.{SetCredit, SetBalance, SetState, EnterQueue, SetDay}
 use Rattle.rtgs_book.specs.Balance.{balance}
 use Rattle.rtgs_book.specs.Changes.{changed, balance_set, with_row, SetsBalances, Leads}
-use Rattle.rtgs_book.specs.Lookup.{accounts}
+use Rattle.rtgs_book.specs.Lookup.{codes_of}
 use Rattle.rtgs_choices.specs.Joining.{without_balances, balances_between, joined_rows}
 use Rattle.rtgs_choices.proofs.Rows.{balance_set-rows, changed-append, known_codes}
 use Rattle.rtgs_lists.proofs.Lists.{all_weaker}
@@ -63,14 +63,14 @@ turned : (b : Bool) (z : ℤ) → cond (not b) (Some z) None ≡ cond b None (So
 turned true z = refl
 turned false z = refl
 
-module _ (old mid new : Book) (one next : List RowChange) (same : accounts new ≡ accounts old) where
-  set_right : (code : List ℕ) → list_any (bytes_eq code) (accounts old) ≡ true
+module _ (old mid new : Book) (one next : List RowChange) (same : codes_of new ≡ codes_of old) where
+  set_right : (code : List ℕ) → list_any (bytes_eq code) (codes_of old) ≡ true
       → balance_set code (joined_rows old one next new)
       ≡ cond (int_eq (balance old code) (balance new code)) None (Some (balance new code))
   set_right code known =
       balance_set-past code one (without_balances next ++ balances_between old new)
       ∙ balance_set-past code next (balances_between old new)
-      ∙ balance_set-rows (λ c. not (int_eq (balance old c) (balance new c))) (balance new) code (accounts old)
+      ∙ balance_set-rows (λ c. not (int_eq (balance old c) (balance new c))) (balance new) code (codes_of old)
       ∙ (λ i. cond (known i && not (int_eq (balance old code) (balance new code))) (Some (balance new code)) None)
       ∙ turned (int_eq (balance old code) (balance new code)) (balance new code)
 
@@ -78,8 +78,8 @@ module _ (old mid new : Book) (one next : List RowChange) (same : accounts new �
   sets_joined =
       subst (AllByRecursion (λ code. balance_set code (joined_rows old one next new)
       ≡ cond (int_eq (balance old code) (balance new code)) None (Some (balance new code)))) (sym same)
-      (all_weaker (λ code. list_any (bytes_eq code) (accounts old) ≡ true) _ set_right (accounts old)
-      (known_codes (accounts old)))
+      (all_weaker (λ code. list_any (bytes_eq code) (codes_of old) ≡ true) _ set_right (codes_of old)
+      (known_codes (codes_of old)))
 
   -- two changes, one after the other, lead where the joined one leads
   pub joined_leads : changed old one ≡ mid → changed mid next ≡ new → Leads old (joined_rows old one next new) new
@@ -91,6 +91,6 @@ module _ (old mid new : Book) (one next : List RowChange) (same : accounts new �
         ∙ changed-append mid (without_balances next) (balances_between old new)
         ∙ ap (λ (b : Book). changed b (balances_between old new)) (changed-without next mid ∙ second)
         ∙ changed-by_balances (balance new)
-        (filter (λ code. not (int_eq (balance old code) (balance new code))) (accounts old)) new;
+        (filter (λ code. not (int_eq (balance old code) (balance new code))) (codes_of old)) new;
     balances = sets_joined;
   }

@@ -16,7 +16,7 @@ use Rattle.rtgs_book.specs.declared.order.Order.{Order}
 use Rattle.rtgs_book.specs.declared.order_state.OrderState.{OrderState}
 use Rattle.rtgs_book.specs.declared.order_state.OrderState.TheVariants.{Settled}
 use Rattle.rtgs_book.specs.Books.{is_empty}
-use Rattle.rtgs_book.specs.Lookup.{accounts}
+use Rattle.rtgs_book.specs.Lookup.{codes_of}
 use Rattle.rtgs_book.specs.Balance.{balance}
 use Rattle.rtgs_book.specs.Choice.{Choice, is_chosen, chosen, balance_after}
 use Rattle.rtgs_book.specs.Commands.{with_altered, with_state, has_number}
@@ -141,7 +141,7 @@ module _ (book : Book) (choice : Choice) (numbers : List ℕ) (by_number : AllBy
 
 pub of_balances : (book : Book) (choice : Choice) → AllByRecursion IsOfBalance (balance_rows book choice)
 unfolding balance_rows
-of_balances book choice = each (filter (moves book choice) (accounts book))
+of_balances book choice = each (filter (moves book choice) (codes_of book))
   where
     each : (codes : List (List ℕ)) → AllByRecursion IsOfBalance
         (map (λ code. SetBalance code (balance_after book choice code)) codes)
@@ -211,15 +211,15 @@ balance_set-rows passes new code (c ∷ codes) = by (bytes_eq c code) refl (bala
         ∙ (λ i. cond ((sym (same_test false e) i || list_any (bytes_eq code) codes) && passes code) (Some (new code))
         None)
 
-accounts-settle : (book : Book) (is_in : Order → Bool) → accounts (settle book is_in) ≡ accounts book
-unfolding settle accounts
+accounts-settle : (book : Book) (is_in : Order → Bool) → codes_of (settle book is_in) ≡ codes_of book
+unfolding settle codes_of
 accounts-settle book is_in = by (is_empty (filter is_in book.orders))
   where
-    by : (b : Bool) → accounts (cond b book (record book {
+    by : (b : Bool) → codes_of (cond b book (record book {
       orders =
           map (restated is_in (Settled (next_mark book))) book.orders;
       marks = book.marks ++ mark_of book (filter is_in book.orders) ∷ [];
-    })) ≡ accounts book
+    })) ≡ codes_of book
     by true = refl
     by false = refl
 
@@ -239,11 +239,11 @@ module _ (law : SettledBalances) (book : Book) (choice : Choice) (numbers : List
       ≡ cond (int_eq (balance book code) (balance (settle book (is_chosen book choice)) code)) None
       (Some (balance (settle book (is_chosen book choice)) code))
 
-  set_right : (code : List ℕ) → list_any (bytes_eq code) (accounts book) ≡ true → SetRight code
+  set_right : (code : List ℕ) → list_any (bytes_eq code) (codes_of book) ≡ true → SetRight code
   unfolding balance_rows
   set_right code known =
       balance_set-states code _ numbers (AddMark mark ∷ balance_rows book choice)
-      ∙ balance_set-rows (moves book choice) (balance_after book choice) code (accounts book)
+      ∙ balance_set-rows (moves book choice) (balance_after book choice) code (codes_of book)
       ∙ (λ i. cond (known i && moves book choice code) (Some (balance_after book choice code)) None)
       ∙ turned (int_eq (balance book code) (balance_after book choice code)) (balance_after book choice code)
       ∙ (λ i. cond (int_eq (balance book code) (sym (law book choice code) i)) None
@@ -252,10 +252,10 @@ module _ (law : SettledBalances) (book : Book) (choice : Choice) (numbers : List
   pub sets_balances : SetsBalances book (settling_rows book choice numbers mark) (settle book (is_chosen book choice))
   sets_balances =
       subst (AllByRecursion SetRight) (sym (accounts-settle book (is_chosen book choice)))
-      (all_weaker (λ code. list_any (bytes_eq code) (accounts book) ≡ true) SetRight set_right (accounts book)
-      (recursion_from_All (λ code. list_any (bytes_eq code) (accounts book) ≡ true) (accounts book)
-      (All-from_get_or (λ code. list_any (bytes_eq code) (accounts book) ≡ true) (accounts book) []
-      (λ i less. in_codes (accounts book) i less))))
+      (all_weaker (λ code. list_any (bytes_eq code) (codes_of book) ≡ true) SetRight set_right (codes_of book)
+      (recursion_from_All (λ code. list_any (bytes_eq code) (codes_of book) ≡ true) (codes_of book)
+      (All-from_get_or (λ code. list_any (bytes_eq code) (codes_of book) ≡ true) (codes_of book) []
+      (λ i less. in_codes (codes_of book) i less))))
 
 -- each code of a list is in it
 pub known_codes : (codes : List (List ℕ)) → AllByRecursion (λ code. list_any (bytes_eq code) codes ≡ true) codes

@@ -10,7 +10,7 @@ use Rattle.std.specs.Str.{bytes_eq}
 use Rattle.rtgs_book.specs.declared.book.Book.{Book}
 use Rattle.rtgs_book.specs.declared.order.Order.{Order}
 use Rattle.rtgs_book.specs.Books.{is_queued}
-use Rattle.rtgs_book.specs.Lookup.{accounts}
+use Rattle.rtgs_book.specs.Lookup.{codes_of}
 use Rattle.rtgs_book.specs.IntSum.{int_sum_by}
 use Rattle.rtgs_book.specs.Balance.{gain}
 use Rattle.rtgs_book.specs.Queue.{queue, queued_numbers}
@@ -119,16 +119,16 @@ passes_by_number p (o ∷ os) rise = (first (p o), later (p o) (passes_by_number
 
 -- parts of the orders that together are those that pass, one part for each account
 module _ (book : Book) (sound : IsSound book) (passes : Order → Bool) (part : List ℕ → List Order)
-    (whole : (f : Order → ℕ) → sum_below (length (accounts book)) (λ i. sum_by f (part (code_at book i)))
+    (whole : (f : Order → ℕ) → sum_below (length (codes_of book)) (λ i. sum_by f (part (code_at book i)))
     ≡ sum_by f (filter passes book.orders)) where
   abbrev parts : List Order
-  parts = flat_map part (accounts book)
+  parts = flat_map part (codes_of book)
 
   abbrev numbers : List ℕ
-  numbers = flat_map (λ code. map number_of (part code)) (accounts book)
+  numbers = flat_map (λ code. map number_of (part code)) (codes_of book)
 
   pub numbers_are : numbers ≡ map number_of parts
-  numbers_are = each (accounts book)
+  numbers_are = each (codes_of book)
     where
       each : (codes : List (List ℕ)) → flat_map (λ code. map number_of (part code)) codes
           ≡ map number_of (flat_map part codes)
@@ -138,10 +138,10 @@ module _ (book : Book) (sound : IsSound book) (passes : Order → Bool) (part : 
 
   pub sum_by-all : (f : Order → ℕ) → sum_by f parts ≡ sum_by f (filter passes book.orders)
   sum_by-all f =
-      sum_by-flat_map f part (accounts book)
-      ∙ ap (sum_by (λ code. sum_by f (part code))) (sym (take_all (length (accounts book)) (accounts book)
+      sum_by-flat_map f part (codes_of book)
+      ∙ ap (sum_by (λ code. sum_by f (part code))) (sym (take_all (length (codes_of book)) (codes_of book)
       (omega arith)))
-      ∙ sym (sum_below-list (λ code. sum_by f (part code)) [] (accounts book) (length (accounts book)) (omega arith))
+      ∙ sym (sum_below-list (λ code. sum_by f (part code)) [] (codes_of book) (length (codes_of book)) (omega arith))
       ∙ whole f
 
   any_by-all : (p : Order → Bool) → list_any p parts ≡ list_any p (filter passes book.orders)
@@ -173,9 +173,9 @@ module _ (law : ChosenAreBeginnings) (book : Book) (choice : Choice) (sound : Is
   abbrev beginning : List ℕ → List Order
   beginning code = take (choice code) (queue book code)
 
-  taken_is : numbers_taken book choice ≡ flat_map (λ code. map number_of (beginning code)) (accounts book)
+  taken_is : numbers_taken book choice ≡ flat_map (λ code. map number_of (beginning code)) (codes_of book)
   unfolding numbers_taken queue
-  taken_is i = flat_map (λ code. take-map number_of (choice code) (queue book code) i) (accounts book)
+  taken_is i = flat_map (λ code. take-map number_of (choice code) (queue book code) i) (codes_of book)
 
   pub chosen_by_number : AllByRecursion (λ o. is_chosen book choice o ≡ is_numbered (numbers_taken book choice) o)
       book.orders
@@ -209,7 +209,7 @@ module _ (law : ChosenAreBeginnings) (book : Book) (choice : Choice) (sound : Is
 -- ---- the queued orders
 
 module _ (book : Book) (sound : IsSound book) where
-  sum_by-queued : (f : Order → ℕ) → sum_below (length (accounts book)) (λ i. sum_by f (queue book (code_at book i)))
+  sum_by-queued : (f : Order → ℕ) → sum_below (length (codes_of book)) (λ i. sum_by f (queue book (code_at book i)))
       ≡ sum_by f (filter is_queued book.orders)
   unfolding queue
   sum_by-queued =
@@ -218,11 +218,11 @@ module _ (book : Book) (sound : IsSound book) where
       (λ code. filter_twice is_queued (λ (o : Order). bytes_eq o.sender code) book.orders)
 
   pub queued_by_number : AllByRecursion (λ o. is_queued o ≡ is_numbered
-      (flat_map (queued_numbers book.orders) (accounts book)) o) book.orders
+      (flat_map (queued_numbers book.orders) (codes_of book)) o) book.orders
   unfolding queue
   queued_by_number = passes_by_numbers book sound is_queued (queue book) sum_by-queued
 
   pub queued_count : length (filter is_queued book.orders) ≡ length
-      (flat_map (queued_numbers book.orders) (accounts book))
+      (flat_map (queued_numbers book.orders) (codes_of book))
   unfolding queue
   queued_count = as_many_numbers book sound is_queued (queue book) sum_by-queued

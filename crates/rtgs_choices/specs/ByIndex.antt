@@ -4,7 +4,7 @@ use Rattle.std.specs.List.{position_or_len}
 use Rattle.std.specs.Str.{bytes_eq}
 use Rattle.rtgs_book.specs.declared.book.Book.{Book}
 use Rattle.rtgs_book.specs.declared.order.Order.{Order}
-use Rattle.rtgs_book.specs.Lookup.{accounts, is_participant}
+use Rattle.rtgs_book.specs.Lookup.{codes_of, is_participant}
 use Rattle.rtgs_book.specs.Balance.{balance, floor}
 use Rattle.rtgs_book.specs.Queue.{queue}
 use Rattle.rtgs_book.specs.Choice.{Choice}
@@ -13,18 +13,18 @@ use Rattle.rtgs_gridlock.specs.declared.queues.Payment.{Payment}
 
 -- the code of the participant with this index
 abbrev pub code_at : Book → ℕ → List ℕ
-code_at book i = slice_index_or (accounts book) i []
+code_at book i = slice_index_or (codes_of book) i []
 
 -- the index of the participant with this code; for any other code, how many participants there are
 unfoldable pub index_of : Book → List ℕ → ℕ
-index_of book code = position_or_len (bytes_eq code) (accounts book)
+index_of book code = position_or_len (bytes_eq code) (codes_of book)
 
 abbrev pub position_of : Book → List ℕ → Position
 position_of book code = record { balance = balance book code; floor = floor book code }
 
 -- each participant's balance and floor
 unfoldable pub positions_of : Book → List Position
-positions_of book = map (position_of book) (accounts book)
+positions_of book = map (position_of book) (codes_of book)
 
 abbrev pub payment_of : Book → Order → Payment
 payment_of book order = record { receiver = index_of book order.receiver; amount = order.amount }
@@ -34,7 +34,7 @@ payments_of book code = map (payment_of book) (queue book code)
 
 -- each participant's queue
 unfoldable pub queues_of : Book → List (List Payment)
-queues_of book = map (payments_of book) (accounts book)
+queues_of book = map (payments_of book) (codes_of book)
 
 -- of each participant's queue as many orders as the lengths say at its index
 unfoldable pub by_code : Book → (ℕ → ℕ) → Choice

@@ -8,7 +8,7 @@ use Rattle.rtgs_book.specs.declared.order_state.OrderState.TheVariants.{Rejected
 use Rattle.rtgs_book.specs.declared.phase.Phase.TheVariants.{Closed}
 use Rattle.rtgs_book.specs.Books.{is_queued}
 use Rattle.rtgs_book.specs.Commands.{with_day, with_state}
-use Rattle.rtgs_book.specs.Lookup.{accounts}
+use Rattle.rtgs_book.specs.Lookup.{codes_of}
 use Rattle.rtgs_book.specs.Queue.{queued_numbers}
 use Rattle.rtgs_choices.specs.Settling.{state_rows}
 
@@ -18,5 +18,5 @@ closed_book book = with_day (with_state book is_queued Rejected) (record book.da
 
 -- what is queued is rejected, account by account; then the day is closed
 abbrev pub closing_rows : Book → List RowChange
-closing_rows book = state_rows Rejected (flat_map (queued_numbers book.orders) (accounts book))
+closing_rows book = state_rows Rejected (flat_map (queued_numbers book.orders) (codes_of book))
     ++ SetDay (record book.day { phase = Closed; automatic = false }) ∷ []

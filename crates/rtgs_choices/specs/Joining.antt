@@ -5,7 +5,7 @@ use Rattle.rtgs_book.specs.declared.book.Book.{Book}
 use Rattle.rtgs_book.specs.declared.change.RowChange.{RowChange}
 use Rattle.rtgs_book.specs.declared.change.RowChange.TheVariants.{SetBalance}
 use Rattle.rtgs_book.specs.Balance.{balance}
-use Rattle.rtgs_book.specs.Lookup.{accounts}
+use Rattle.rtgs_book.specs.Lookup.{codes_of}
 
 abbrev pub sets_balance : RowChange → Bool
 sets_balance (SetBalance code cents) = true
@@ -17,7 +17,7 @@ without_balances rows = filter (λ row. not (sets_balance row)) rows
 -- the balances that are others in the new book, in code order
 abbrev pub balances_between : Book → Book → List RowChange
 balances_between old new = map (λ code. SetBalance code (balance new code))
-    (filter (λ code. not (int_eq (balance old code) (balance new code))) (accounts old))
+    (filter (λ code. not (int_eq (balance old code) (balance new code))) (codes_of old))
 
 -- first what the one changes, then what the other does; each balance once
 abbrev pub joined_rows : Book → List RowChange → List RowChange → Book → List RowChange

@@ -9,7 +9,7 @@ use Rattle.rtgs_book.specs.declared.mark.Mark.{Mark}
 use Rattle.rtgs_book.specs.declared.order.Order.{Order}
 use Rattle.rtgs_book.specs.declared.order_state.OrderState.{OrderState}
 use Rattle.rtgs_book.specs.declared.order_state.OrderState.TheVariants.{Settled}
-use Rattle.rtgs_book.specs.Lookup.{accounts}
+use Rattle.rtgs_book.specs.Lookup.{codes_of}
 use Rattle.rtgs_book.specs.Balance.{balance}
 use Rattle.rtgs_book.specs.Queue.{queue, queued_numbers}
 use Rattle.rtgs_book.specs.Choice.{Choice, balance_after}
@@ -18,11 +18,11 @@ use Rattle.rtgs_choices.specs.OneByOne.{passes_one}
 
 -- account by account the first orders of the queue, as many as the choice says
 unfoldable pub orders_taken : Book → Choice → List Order
-orders_taken book choice = flat_map (λ code. take (choice code) (queue book code)) (accounts book)
+orders_taken book choice = flat_map (λ code. take (choice code) (queue book code)) (codes_of book)
 
 -- account by account the first numbers of the queue, as many as the choice says
 unfoldable pub numbers_taken : Book → Choice → List ℕ
-numbers_taken book choice = flat_map (λ code. take (choice code) (queued_numbers book.orders code)) (accounts book)
+numbers_taken book choice = flat_map (λ code. take (choice code) (queued_numbers book.orders code)) (codes_of book)
 
 -- the order has one of the numbers
 abbrev pub is_numbered : List ℕ → Order → Bool
@@ -44,7 +44,7 @@ moves book choice code = not (int_eq (balance book code) (balance_after book cho
 -- each balance that the choice moves, in code order
 unfoldable pub balance_rows : Book → Choice → List RowChange
 balance_rows book choice = map (λ code. SetBalance code (balance_after book choice code))
-    (filter (moves book choice) (accounts book))
+    (filter (moves book choice) (codes_of book))
 
 -- the orders with these numbers are settled under the mark; then the mark, and the balances
 abbrev pub settling_rows : Book → Choice → List ℕ → Mark → List RowChange

@@ -18,7 +18,7 @@ ghost use Rattle.rtgs_book.specs.declared.command.Command.TheVariants.{Resolve, 
 ghost use Rattle.rtgs_book.specs.declared.answer.Answer.TheVariants.{Resolved};
 ghost use Rattle.rtgs_book.specs.declared.answer.Answer.TheVariants as answer;
 ghost use Rattle.rtgs_book.specs.Books.{is_cut_off, is_empty, is_queued};
-ghost use Rattle.rtgs_book.specs.Lookup.{accounts};
+ghost use Rattle.rtgs_book.specs.Lookup.{codes_of};
 ghost use Rattle.rtgs_book.specs.IntSum.{int_sum_by};
 ghost use Rattle.rtgs_book.specs.Balance.{balance, gain};
 ghost use Rattle.rtgs_book.specs.Queue.{queued_numbers};
@@ -39,8 +39,8 @@ use rtgs_book::laws::{balance_after_restating, chosen_are_beginnings, settled_ba
 
 /// What the resolver is given of a sound book meets its conditions, with `MOST_QUEUED` payments at most.
 pub fn conditions_hold()
-    ensures positions { (book : Book) → length (positions_of book) ≡ length (accounts book) }
-    ensures queues { (book : Book) → length (queues_of book) ≡ length (accounts book) }
+    ensures positions { (book : Book) → length (positions_of book) ≡ length (codes_of book) }
+    ensures queues { (book : Book) → length (queues_of book) ≡ length (codes_of book) }
     ensures floored { (book : Book) → IsSound book → AreFloored (positions_of book) }
     ensures receivers { (book : Book) → IsSound book → AreInRange (queues_of book) }
     ensures payments { (book : Book) → IsSound book → payment_count (queues_of book) ≤ MOST_QUEUED }
@@ -49,11 +49,11 @@ pub fn conditions_hold()
 /// A choice by index and the choice by code that it means take as much of each participant's
 /// queue, leave it the same balance, and have the same count and value.
 pub fn choices_agree()
-    ensures indexes { (book : Book) (i : ℕ) → IsSound book → i < length (accounts book)
+    ensures indexes { (book : Book) (i : ℕ) → IsSound book → i < length (codes_of book)
         → index_of book (code_at book i) ≡ i }
-    ensures lengths { (book : Book) (lengths : ℕ → ℕ) (i : ℕ) → IsSound book → i < length (accounts book)
+    ensures lengths { (book : Book) (lengths : ℕ → ℕ) (i : ℕ) → IsSound book → i < length (codes_of book)
         → by_code book lengths (code_at book i) ≡ lengths i }
-    ensures balances { (book : Book) (lengths : ℕ → ℕ) (i : ℕ) → IsSound book → i < length (accounts book)
+    ensures balances { (book : Book) (lengths : ℕ → ℕ) (i : ℕ) → IsSound book → i < length (codes_of book)
         → balance_after book (by_code book lengths) (code_at book i)
         ≡ after (positions_of book) (queues_of book) lengths i }
     ensures count { (book : Book) (lengths : ℕ → ℕ) → IsSound book → IsWithin (queues_of book) lengths
@@ -103,9 +103,9 @@ pub fn taken_are_chosen()
 pub fn queued_are_numbered()
     ensures numbers { (book : Book) → IsSound book → AllByRecursion
         (λ order. is_queued order ≡ is_numbered (flat_map (queued_numbers book.orders)
-        (accounts book)) order) book.orders }
+        (codes_of book)) order) book.orders }
     ensures count { (book : Book) → IsSound book → length (filter is_queued book.orders)
-        ≡ length (flat_map (queued_numbers book.orders) (accounts book)) }
+        ≡ length (flat_map (queued_numbers book.orders) (codes_of book)) }
 {}
 
 /// Rows that change orders, one after another, change all orders that pass the test of one of the numbers. They set no
@@ -180,6 +180,6 @@ pub fn rows_close()
 /// Two changes, one after the other, are one: the rows of both without their balances, and then the balances that are
 /// others at the end. It leads to the same book, and sets the balances that move, each once, and no others.
 pub fn changes_join()
-    ensures { (old mid new : Book) (one next : List RowChange) → accounts new ≡ accounts old → Leads old one mid
+    ensures { (old mid new : Book) (one next : List RowChange) → codes_of new ≡ codes_of old → Leads old one mid
         → Leads mid next new → Leads old (joined_rows old one next new) new }
 {}

@@ -16,7 +16,7 @@ use Rattle.rtgs_book.specs.declared.book.Book.{Book}
 use Rattle.rtgs_book.specs.declared.participant.Participant.{Participant}
 use Rattle.rtgs_book.specs.declared.limits.TheConstants.{MOST_PARTICIPANTS}
 use Rattle.rtgs_book.specs.Balance.{balance}
-use Rattle.rtgs_book.specs.Lookup.{accounts, has_code, participant_of}
+use Rattle.rtgs_book.specs.Lookup.{codes_of, has_code, participant_of}
 use Rattle.rtgs_book.specs.Soundness.{IsSound}
 use Rattle.rtgs_book.specs.cores.Cores.{account_of}
 use Rattle.rtgs_book.specs.cores.Following as following
@@ -58,29 +58,29 @@ all_found (p ∷ ps) rise = (rw (bytes_eq_self p.code) refl, found_later p ps ps
 -- the participant at a place is known by its code
 known_at : (book : Book) (i : ℕ) (p : Participant) → IsSound book → slice_get book.participants i ≡ Some p
     → participant_of book p.code ≡ Some p
-unfolding participant_of accounts
+unfolding participant_of codes_of
 known_at book i p sound there =
     all_get (λ (q : Participant). find (has_code q.code) book.participants ≡ Some q) book.participants i p
     (slice_get_within book.participants i p there) (sym (get_or_from_slice_get book.participants i p p there))
     (all_found book.participants sound.codes_rise.0)
 
 few_participants : (book : Book) → IsSound book → length book.participants ≤ MOST_PARTICIPANTS
-unfolding accounts
+unfolding codes_of
 few_participants book sound =
     omega (arith, length-map book.participants (λ (p : Participant). p.code), sound.codes_rise.1)
 
 -- ---- the account at a place
 
 pub account_at : (book : Book) (i : ℕ) (code : List ℕ) (found : Option Account) → IsSound book
-    → slice_get (accounts book) i ≡ Some code → option_map following.participant_of found ≡ participant_of book code
+    → slice_get (codes_of book) i ≡ Some code → option_map following.participant_in found ≡ participant_of book code
     → IfSome found (λ (a : Account). a.balance ≡ balance book code)
     → found ≡ option_map (account_of book) (slice_get book.participants i)
-unfolding accounts
+unfolding codes_of
 account_at book i code found sound there is balanced = by (slice_get book.participants i) refl
     (sym (slice_get-map (λ (p : Participant). p.code) book.participants i) ∙ there)
   where
     at : (p : Participant) → p.code ≡ code → (o : Option Account)
-        → option_map following.participant_of o ≡ Some p → IfSome o (λ (a : Account). a.balance ≡ balance book code)
+        → option_map following.participant_in o ≡ Some p → IfSome o (λ (a : Account). a.balance ≡ balance book code)
         → o ≡ Some (account_of book p)
     at p coded None e b = absurd (cc)
     at p coded (Some a) e b =
@@ -93,9 +93,9 @@ account_at book i code found sound there is balanced = by (slice_get book.partic
         let same : p.code ≡ code = same_Some _ _ coded in
         at p same found (is ∙ ap (participant_of book) (sym same) ∙ known_at book i p sound e) balanced
 
-pub no_account_at : (book : Book) (i : ℕ) → slice_get (accounts book) i ≡ None
+pub no_account_at : (book : Book) (i : ℕ) → slice_get (codes_of book) i ≡ None
     → None ≡ option_map (account_of book) (slice_get book.participants i)
-unfolding accounts
+unfolding codes_of
 no_account_at book i none = by (slice_get book.participants i)
     (sym (slice_get-map (λ (p : Participant). p.code) book.participants i) ∙ none)
   where

@@ -13,7 +13,7 @@ use Rattle.rtgs_money.specs.Date.{is_weekend}
 use Rattle.rtgs_book.specs.declared.book.Book.{Book}
 use Rattle.rtgs_book.specs.declared.command.Command.{Command}
 use Rattle.rtgs_book.specs.Outcome.{OwnReply, first_of}
-use Rattle.rtgs_book.specs.Lookup.{participant_of, credit_of, accounts, is_participant, order_named, posting_named}
+use Rattle.rtgs_book.specs.Lookup.{participant_of, credit_of, codes_of, is_participant, order_named, posting_named}
 use Rattle.rtgs_book.specs.Balance.{gain, balance, floor, total}
 use Rattle.rtgs_book.specs.Queue.{queue, waiting, orders_before}
 use Rattle.rtgs_book.specs.Choice.{Choice, is_chosen, chosen, balance_after, IsGreatest}
@@ -29,14 +29,14 @@ use Rattle.rtgs_examples.specs.Examples.{ComesFrom}
 -- All that the examples compute with, named once: a proof that names this one unfolds them all.
 unfoldable pub computed : ⊤
 unfolding first_of order takes settles_at_once queue waiting orders_before balance gain floor credit_of participant_of
-    accounts is_participant order_named posting_named settle mark_of let_in open_day is_weekend days_from_civil
+    codes_of is_participant order_named posting_named settle mark_of let_in open_day is_weekend days_from_civil
     weekday_number day_count days_of_years days_of_months withdraw balance_after chosen is_chosen resolve set_credit
     with_credit post total cut_off close_day with_state overdrawn
 computed = tt
 
 -- where nobody is short any more, the procedure's choice is the greatest
 abbrev pub FindsGreatest : Type 0
-FindsGreatest = (book : Book) (choice : Choice) → Reaches book choice → AllByRecursion (λ code. floor book code ≤ℤ balance_after book choice code) (accounts book) → IsGreatest book choice
+FindsGreatest = (book : Book) (choice : Choice) → Reaches book choice → AllByRecursion (λ code. floor book code ≤ℤ balance_after book choice code) (codes_of book) → IsGreatest book choice
 
 -- ---- ring
 

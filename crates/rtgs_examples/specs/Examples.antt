@@ -9,7 +9,7 @@ use Rattle.rtgs_book.specs.declared.order.Order.{Order as OrderRecord}
 use Rattle.rtgs_book.specs.declared.participant.Participant.{Participant}
 use Rattle.rtgs_book.specs.declared.phase.Phase.TheVariants.{Open, Closed}
 use Rattle.rtgs_book.specs.Balance.{balance}
-use Rattle.rtgs_book.specs.Lookup.{accounts}
+use Rattle.rtgs_book.specs.Lookup.{codes_of}
 use Rattle.rtgs_book.specs.declared.command.Command.{Command}
 use Rattle.rtgs_book.specs.Outcome.{OwnReply, Reply, alone, with_resolution}
 use Rattle.rtgs_book.specs.Queue.{queued_numbers}
@@ -94,7 +94,7 @@ and_settles reply mark count value = with_resolution reply (Some (record { mark 
 -- from the book, the commands get these replies, and leave these balances
 abbrev pub ComesWholeFrom : Book → List Command → List Reply → List ℤ → Type 0
 ComesWholeFrom book commands replies balances =
-    (end : Book) × Run book commands replies end × (map (balance end) (accounts end) ≡ balances)
+    (end : Book) × Run book commands replies end × (map (balance end) (codes_of end) ≡ balances)
 
 -- so with nothing resolved after any of them
 abbrev pub ComesFrom : Book → List Command → List OwnReply → List ℤ → Type 0

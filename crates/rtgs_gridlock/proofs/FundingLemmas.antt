@@ -1,4 +1,4 @@
--- Standings as payments are taken back.
+-- Fundings as payments are taken back.
 use Rattle.std.proofs.Common.{◌≡◌, ℕ, List, ◌+◌, ◌-◌, ◌<◌, ◌≤◌, cond, eqb, length, take, get_or, sym, ap, ◌∙◌, subst}
 use Rattle.std.proofs.Common.{inl, inr, arith, pos, ◌+ℤ◌}
 use Rattle.std.specs.List.{sum_by}
@@ -8,21 +8,21 @@ use Rattle.std.proofs.lemmas.Int.{ints}
 use Rattle.std.proofs.lemmas.Bool.{cases_eq, cond-true, cond-false, eq-eqb, ne_eqb}
 use Rattle.rtgs_gridlock.specs.declared.positions.Position.{Position}
 use Rattle.rtgs_gridlock.specs.Choices.{amount_to, position_of, queue_of, sent, received, IsCovered, IsGreatest}
-use Rattle.rtgs_gridlock.specs.Standings.{funds_of, owed_of, everything, AreStandings}
+use Rattle.rtgs_gridlock.specs.Fundings.{funds_of, owed_of, everything, AreFundings}
 use Rattle.rtgs_gridlock.specs.declared.queues.Payment.{Payment}
-use Rattle.rtgs_gridlock.specs.declared.standings.Funding.{Funding}
+use Rattle.rtgs_gridlock.specs.declared.fundings.Funding.{Funding}
 use Rattle.rtgs_gridlock.proofs.Sums.{sum_below-same, sum_below_changed}
 use Rattle.rtgs_gridlock.specs.Workspaces.{newest}
 use Rattle.rtgs_gridlock.proofs.ChoiceLemmas.{sent_is, sent-same}
 
--- headrooms, with what all payments bring, are the standings of the choice of all
-pub AreStandings-filled : (positions : List Position) (queues : List (List Payment)) (opened credited : List Funding)
+-- headrooms, with what all payments bring, are the fundings of the choice of all
+pub AreFundings-filled : (positions : List Position) (queues : List (List Payment)) (opened credited : List Funding)
     → ((p : ℕ) → p < length queues → (position_of positions p).floor +ℤ pos (funds_of opened p)
     ≡ (position_of positions p).balance) → ((p : ℕ) → p < length queues
     → owed_of opened p ≡ sum_by (λ payment. payment.amount) (queue_of queues p))
     → ((p : ℕ) → p < length queues → funds_of credited p ≡ funds_of opened p + received queues (everything queues) p)
-    → ((p : ℕ) → owed_of credited p ≡ owed_of opened p) → AreStandings positions queues (everything queues) credited
-AreStandings-filled positions queues opened credited headroom owes brings same = record {
+    → ((p : ℕ) → owed_of credited p ≡ owed_of opened p) → AreFundings positions queues (everything queues) credited
+AreFundings-filled positions queues opened credited headroom owes brings same = record {
   funds = λ p b. omega (arith, ints, headroom p b, brings p b);
   owed = λ p b.
       same p ∙ owes p b ∙ sym (sent_is queues (everything queues) p
@@ -37,10 +37,10 @@ received-same queues a b p h =
     sum_below-same (length queues) _ _ (λ s c. ap (λ (k : ℕ). sum_by (amount_to p) (take k (queue_of queues s)))
     (h s c))
 
-pub AreStandings-same : (positions : List Position) (queues : List (List Payment)) (a b : ℕ → ℕ)
-    (standings : List Funding) → ((s : ℕ) → s < length queues → a s ≡ b s) → AreStandings positions queues a standings
-    → AreStandings positions queues b standings
-AreStandings-same positions queues a b standings h are = record {
+pub AreFundings-same : (positions : List Position) (queues : List (List Payment)) (a b : ℕ → ℕ)
+    (fundings : List Funding) → ((s : ℕ) → s < length queues → a s ≡ b s) → AreFundings positions queues a fundings
+    → AreFundings positions queues b fundings
+AreFundings-same positions queues a b fundings h are = record {
   funds = λ p c. are.funds p c ∙ ap (λ (x : ℕ). (position_of positions p).balance +ℤ pos x)
       (received-same queues a b p h);
   owed = λ p c. are.owed p c ∙ sent-same queues a b p (h p c);
@@ -74,13 +74,13 @@ sent_taken queues many fewer s e within =
     beginning_taken (λ payment. payment.amount) (queue_of queues s) (many s) (fewer s)
     (record { receiver = 0; amount = 0 }) e within
 
--- the standings after a payment is taken back are those of the smaller choice
-pub AreStandings-taken : (positions : List Position) (queues : List (List Payment)) (many fewer : ℕ → ℕ)
+-- the fundings after a payment is taken back are those of the smaller choice
+pub AreFundings-taken : (positions : List Position) (queues : List (List Payment)) (many fewer : ℕ → ℕ)
     (old new : List Funding) (s : ℕ) → s < length queues → fewer s + 1 ≡ many s → many s ≤ length (queue_of queues s)
     → ((t : ℕ) → (t ≡ s → ⊥) → fewer t ≡ many t) → ((p : ℕ) → funds_of new p + amount_to p (newest queues many s)
     ≡ funds_of old p) → ((p : ℕ) → owed_of new p + cond (eqb p s) (newest queues many s).amount 0 ≡ owed_of old p)
-    → AreStandings positions queues many old → AreStandings positions queues fewer new
-AreStandings-taken positions queues many fewer old new s inside e within others funds owed are = record {
+    → AreFundings positions queues many old → AreFundings positions queues fewer new
+AreFundings-taken positions queues many fewer old new s inside e within others funds owed are = record {
   funds = λ p b. omega (
     arith,
     ints,
@@ -109,16 +109,16 @@ AreStandings-taken positions queues many fewer old new s inside e within others 
         ]
 
 -- funds cover what is owed exactly where the choice leaves the participant at its floor or above
-pub IsCovered-from_standings : (positions : List Position) (queues : List (List Payment)) (choice : ℕ → ℕ)
-    (standings : List Funding) (p : ℕ) → p < length queues → AreStandings positions queues choice standings
-    → owed_of standings p ≤ funds_of standings p → IsCovered positions queues choice p
-IsCovered-from_standings positions queues choice standings p b are enough =
+pub IsCovered-from_fundings : (positions : List Position) (queues : List (List Payment)) (choice : ℕ → ℕ)
+    (fundings : List Funding) (p : ℕ) → p < length queues → AreFundings positions queues choice fundings
+    → owed_of fundings p ≤ funds_of fundings p → IsCovered positions queues choice p
+IsCovered-from_fundings positions queues choice fundings p b are enough =
     omega (arith, ints, are.funds p b, are.owed p b, enough)
 
 pub enough_from_IsCovered : (positions : List Position) (queues : List (List Payment)) (choice : ℕ → ℕ)
-    (standings : List Funding) (p : ℕ) → p < length queues → AreStandings positions queues choice standings
-    → IsCovered positions queues choice p → owed_of standings p ≤ funds_of standings p
-enough_from_IsCovered positions queues choice standings p b are covered =
+    (fundings : List Funding) (p : ℕ) → p < length queues → AreFundings positions queues choice fundings
+    → IsCovered positions queues choice p → owed_of fundings p ≤ funds_of fundings p
+enough_from_IsCovered positions queues choice fundings p b are covered =
     omega (arith, ints, are.funds p b, are.owed p b, covered)
 
 -- what is said of a choice depends on its lengths below the number of queues alone

@@ -1,6 +1,6 @@
 pub mod Sums
 pub mod ChoiceLemmas
 pub mod ListedLemmas
-pub mod StandingLemmas
+pub mod FundingLemmas
 pub mod Resolving
 pub mod LawLemmas

@@ -6,25 +6,25 @@ use Rattle.std.proofs.lemmas.Int.{ints}
 use Rattle.std.proofs.lemmas.Bool.{cases_eq, cond-true, cond-false, eq-eqb, ne_eqb, false≢true}
 use Rattle.rtgs_gridlock.specs.declared.queues.Payment.{Payment}
 use Rattle.rtgs_gridlock.specs.declared.positions.Position.{Position}
-use Rattle.rtgs_gridlock.specs.declared.standings.Funding.{Funding}
+use Rattle.rtgs_gridlock.specs.declared.fundings.Funding.{Funding}
 use Rattle.rtgs_gridlock.specs.declared.workspace.Workspace.{Workspace}
 use Rattle.rtgs_gridlock.specs.Choices.{sum_below, amount_to, position_of, queue_of, payment_count, IsFeasible}
 use Rattle.rtgs_gridlock.specs.Choices.{IsGreatest, IsWithin, AreInRange}
-use Rattle.rtgs_gridlock.specs.Standings.{funds_of, owed_of, everything, HasEnough, AreStandings}
+use Rattle.rtgs_gridlock.specs.Fundings.{funds_of, owed_of, everything, HasEnough, AreFundings}
 use Rattle.rtgs_gridlock.specs.Workspaces.{reserved_participants, participants_of, lengths_of, choice_of, steps_of}
-use Rattle.rtgs_gridlock.specs.Workspaces.{steps_left, waiting_count, newest, IsWaiting, IsFilled, IsTested}
-use Rattle.rtgs_gridlock.specs.Workspaces.{CanTakeBack, IsTakenBack, SameButWaiting}
+use Rattle.rtgs_gridlock.specs.Workspaces.{steps_left, untested_count, newest, IsUntested, IsFilled, IsTested}
+use Rattle.rtgs_gridlock.specs.Workspaces.{CanTakeBack, IsTakenBack, SameButUntested}
 use Rattle.rtgs_gridlock.specs.Resolving.{IsAboveFeasible, IsResolving}
 use Rattle.rtgs_gridlock.specs.Listed.{on_count}
 use Rattle.rtgs_gridlock.proofs.Sums.{sum_below-same, sum_below_changed}
 use Rattle.rtgs_gridlock.proofs.ListedLemmas.{on_count-clear, none_is_on}
 use Rattle.rtgs_gridlock.proofs.ChoiceLemmas.{short_has_fewer, short_has_one}
-use Rattle.rtgs_gridlock.proofs.StandingLemmas.{AreStandings-same, AreStandings-taken, IsCovered-from_standings}
-use Rattle.rtgs_gridlock.proofs.StandingLemmas.{enough_from_IsCovered, received_taken, sent_taken, IsGreatest-same}
+use Rattle.rtgs_gridlock.proofs.FundingLemmas.{AreFundings-same, AreFundings-taken, IsCovered-from_fundings}
+use Rattle.rtgs_gridlock.proofs.FundingLemmas.{enough_from_IsCovered, received_taken, sent_taken, IsGreatest-same}
 
 -- an index was taken out of the list of a workspace
 abbrev pub IsTaken : ℕ → Workspace → Workspace → Type 0
-IsTaken s old new = (s < reserved_participants old) × IsWaiting old s × (new.waiting ≡ set old.waiting s false)
+IsTaken s old new = (s < reserved_participants old) × IsUntested old s × (new.untested ≡ set old.untested s false)
 
 -- all that holds between two turns, but that the participant under test has enough
 pub record IsTesting (positions : List Position) (queues : List (List Payment)) (workspace : Workspace) (s : ℕ) : Type 0
@@ -34,12 +34,12 @@ pub record IsTesting (positions : List Position) (queues : List (List Payment)) 
     pub floored : (p : ℕ) → p < length queues → (position_of positions p).floor ≤ℤ (position_of positions p).balance
     pub within : IsWithin queues (choice_of workspace)
     pub largest : IsAboveFeasible positions queues (choice_of workspace)
-    pub standings : AreStandings positions queues (choice_of workspace) workspace.standings.list
-    pub inside : (p : ℕ) → IsWaiting workspace p → p < length queues
-    pub tested : (p : ℕ) → p < length queues → (IsWaiting workspace p → ⊥) → (p ≡ s → ⊥)
-        → HasEnough workspace.standings.list p
+    pub fundings : AreFundings positions queues (choice_of workspace) workspace.fundings.list
+    pub inside : (p : ℕ) → IsUntested workspace p → p < length queues
+    pub tested : (p : ℕ) → p < length queues → (IsUntested workspace p → ⊥) → (p ≡ s → ⊥)
+        → HasEnough workspace.fundings.list p
 
--- what is said of a choice and its standings holds of equal ones
+-- what is said of a choice and its fundings holds of equal ones
 same_choice : (positions : List Position) (queues : List (List Payment)) (old new : Workspace)
     → new.lengths ≡ old.lengths → IsWithin queues (choice_of old) × IsAboveFeasible positions queues (choice_of old)
     → IsWithin queues (choice_of new) × IsAboveFeasible positions queues (choice_of new)
@@ -47,20 +47,20 @@ same_choice positions queues old new e is =
     subst (λ (x : Vec ℕ Global). IsWithin queues (slice_index x.items)
     × IsAboveFeasible positions queues (slice_index x.items)) (sym e) is
 
-same_standings : (positions : List Position) (queues : List (List Payment)) (old new : Workspace)
-    → new.lengths ≡ old.lengths → new.standings.list ≡ old.standings.list
-    → AreStandings positions queues (choice_of old) old.standings.list
-    → AreStandings positions queues (choice_of new) new.standings.list
-same_standings positions queues old new d e are =
-    subst (λ (x : Vec ℕ Global). AreStandings positions queues (slice_index x.items) new.standings.list) (sym d)
-    (subst (λ (y : List Funding). AreStandings positions queues (choice_of old) y) (sym e) are)
+same_fundings : (positions : List Position) (queues : List (List Payment)) (old new : Workspace)
+    → new.lengths ≡ old.lengths → new.fundings.list ≡ old.fundings.list
+    → AreFundings positions queues (choice_of old) old.fundings.list
+    → AreFundings positions queues (choice_of new) new.fundings.list
+same_fundings positions queues old new d e are =
+    subst (λ (x : Vec ℕ Global). AreFundings positions queues (slice_index x.items) new.fundings.list) (sym d)
+    (subst (λ (y : List Funding). AreFundings positions queues (choice_of old) y) (sym e) are)
 
 -- with all payments chosen and all participants on the list
 pub IsResolving-filled : (positions : List Position) (queues : List (List Payment)) (old filled listed : Workspace)
     → ((p : ℕ) → p < length queues → (position_of positions p).floor ≤ℤ (position_of positions p).balance)
-    → IsFilled positions queues old filled → SameButWaiting filled listed
-    → ((p : ℕ) → p < participants_of filled → IsWaiting listed p)
-    → ((p : ℕ) → IsWaiting listed p → p < participants_of filled) → IsResolving positions queues listed
+    → IsFilled positions queues old filled → SameButUntested filled listed
+    → ((p : ℕ) → p < participants_of filled → IsUntested listed p)
+    → ((p : ℕ) → IsUntested listed p → p < participants_of filled) → IsResolving positions queues listed
 IsResolving-filled positions queues old filled listed floored fill same all only =
     let choice = same_choice positions queues filled listed same.choice (within, record { above = above }) in
     record {
@@ -68,7 +68,7 @@ IsResolving-filled positions queues old filled listed floored fill same all only
       floored = floored;
       within = choice.0;
       largest = choice.1;
-      standings = same_standings positions queues filled listed same.choice same.standings stands;
+      fundings = same_fundings positions queues filled listed same.choice same.fundings stands;
       inside = λ p on. omega (arith, only p on, fill.participants);
       tested = λ p b off. absurd (off (all p (omega (arith, b, fill.participants))));
     }
@@ -80,14 +80,14 @@ IsResolving-filled positions queues old filled listed floored fill same all only
         → other p ≤ choice_of filled p
     above other feasible p b = omega (arith, fill.choice p b, feasible.within p b)
 
-    stands : AreStandings positions queues (choice_of filled) filled.standings.list
-    stands = AreStandings-same positions queues (everything queues) (choice_of filled) filled.standings.list
-        (λ p b. sym (fill.choice p b)) fill.standings
+    stands : AreFundings positions queues (choice_of filled) filled.fundings.list
+    stands = AreFundings-same positions queues (everything queues) (choice_of filled) filled.fundings.list
+        (λ p b. sym (fill.choice p b)) fill.fundings
 
 -- the bound: a test of each participant, and for each payment its removal and two more tests
 pub steps_left-filled : (positions : List Position) (queues : List (List Payment)) (old filled listed : Workspace)
-    → IsFilled positions queues old filled → SameButWaiting filled listed
-    → waiting_count listed ≤ participants_of filled
+    → IsFilled positions queues old filled → SameButUntested filled listed
+    → untested_count listed ≤ participants_of filled
     → steps_left queues listed ≤ length queues + 3 * payment_count queues
 unfolding payment_count
 steps_left-filled positions queues old filled listed fill same few =
@@ -97,15 +97,15 @@ steps_left-filled positions queues old filled listed fill same few =
 
 -- the list without a participant
 taken_off : (s : ℕ) (before taken : Workspace) → IsTaken s before taken → (p : ℕ) → (p ≡ s → ⊥)
-    → (IsWaiting taken p → IsWaiting before p) × (IsWaiting before p → IsWaiting taken p)
+    → (IsUntested taken p → IsUntested before p) × (IsUntested before p → IsUntested taken p)
 taken_off s before taken take p ne =
-    let e : get_or taken.waiting p false ≡ get_or before.waiting p false =
-    ap (λ (xs : List Bool). get_or xs p false) take.2 ∙ get_or-set_other before.waiting s p false false ne in
+    let e : get_or taken.untested p false ≡ get_or before.untested p false =
+    ap (λ (xs : List Bool). get_or xs p false) take.2 ∙ get_or-set_other before.untested s p false false ne in
     (λ on. sym e ∙ on, λ on. e ∙ on)
 
 -- a participant that was taken off the list and tested
 pub IsTesting-tested : (positions : List Position) (queues : List (List Payment)) (s : ℕ)
-    (before taken tested : Workspace) → IsResolving positions queues before → SameButWaiting before taken
+    (before taken tested : Workspace) → IsResolving positions queues before → SameButUntested before taken
     → IsTaken s before taken → IsTested taken tested → IsTesting positions queues tested s
 IsTesting-tested positions queues s before taken tested is same take test =
     let choice = same_choice positions queues before tested (test.choice ∙ same.choice) (is.within, is.largest) in
@@ -115,40 +115,40 @@ IsTesting-tested positions queues s before taken tested is same take test =
       floored = is.floored;
       within = choice.0;
       largest = choice.1;
-      standings = same_standings positions queues before tested (test.choice ∙ same.choice)
-          (test.standings ∙ same.standings) is.standings;
+      fundings = same_fundings positions queues before tested (test.choice ∙ same.choice)
+          (test.fundings ∙ same.fundings) is.fundings;
       inside = inside;
       tested = rest;
     }
   where
-    on_of : (p : ℕ) → get_or tested.waiting p false ≡ get_or taken.waiting p false
-    on_of p = ap (λ (xs : List Bool). get_or xs p false) test.waiting
+    on_of : (p : ℕ) → get_or tested.untested p false ≡ get_or taken.untested p false
+    on_of p = ap (λ (xs : List Bool). get_or xs p false) test.untested
 
-    inside : (p : ℕ) → IsWaiting tested p → p < length queues
+    inside : (p : ℕ) → IsUntested tested p → p < length queues
     inside p on =
         elim (cases_eq p s) [
           | inl at ↦ subst (λ (q : ℕ). q < length queues) (sym at) (is.inside s take.1)
           | inr ne ↦ is.inside p ((taken_off s before taken take p ne).0 (sym (on_of p) ∙ on))
         ]
 
-    rest : (p : ℕ) → p < length queues → (IsWaiting tested p → ⊥) → (p ≡ s → ⊥) → HasEnough tested.standings.list p
+    rest : (p : ℕ) → p < length queues → (IsUntested tested p → ⊥) → (p ≡ s → ⊥) → HasEnough tested.fundings.list p
     rest p b off ne =
-        subst (λ (xs : List Funding). HasEnough xs p) (sym (test.standings ∙ same.standings))
+        subst (λ (xs : List Funding). HasEnough xs p) (sym (test.fundings ∙ same.fundings))
         (is.tested p b (λ on. off (on_of p ∙ (taken_off s before taken take p ne).1 on)))
 
 -- a participant that was tested and is short: its newest chosen payment is taken back
 pub IsResolving-taken : (positions : List Position) (queues : List (List Payment)) (s : ℕ)
-    (tested back after : Workspace) → IsTesting positions queues tested s → (HasEnough tested.standings.list s → ⊥)
-    → IsTakenBack queues s tested back → SameButWaiting back after → IsWaiting after s
-    → IsWaiting after (newest queues (choice_of tested) s).receiver → ((p : ℕ) → IsWaiting back p → IsWaiting after p)
-    → ((p : ℕ) → IsWaiting after p → p < participants_of back) → IsResolving positions queues after
+    (tested back after : Workspace) → IsTesting positions queues tested s → (HasEnough tested.fundings.list s → ⊥)
+    → IsTakenBack queues s tested back → SameButUntested back after → IsUntested after s
+    → IsUntested after (newest queues (choice_of tested) s).receiver
+    → ((p : ℕ) → IsUntested back p → IsUntested after p) → ((p : ℕ) → IsUntested after p → p < participants_of back) → IsResolving positions queues after
 IsResolving-taken positions queues s tested back after is short taken same sender receiver others only = record {
   participants = same.participants ∙ taken.participants ∙ is.participants;
   floored = is.floored;
   within = within;
   largest = record { above = above };
-  standings = AreStandings-taken positions queues (choice_of tested) (choice_of after) tested.standings.list
-      after.standings.list s is.is_one fewer (is.within s is.is_one) unchanged funds owed is.standings;
+  fundings = AreFundings-taken positions queues (choice_of tested) (choice_of after) tested.fundings.list
+      after.fundings.list s is.is_one fewer (is.within s is.is_one) unchanged funds owed is.fundings;
   inside = λ p on. omega (arith, only p on, taken.participants, is.participants);
   tested = enough;
 }
@@ -162,13 +162,13 @@ IsResolving-taken positions queues s tested back after is short taken same sende
     unchanged : (p : ℕ) → (p ≡ s → ⊥) → choice_of after p ≡ choice_of tested p
     unchanged p ne = choice_is p ∙ taken.others p ne
 
-    funds : (p : ℕ) → funds_of after.standings.list p + amount_to p (newest queues (choice_of tested) s)
-        ≡ funds_of tested.standings.list p
-    funds p = omega (arith, taken.funds p, ap (λ (xs : List Funding). funds_of xs p) same.standings)
+    funds : (p : ℕ) → funds_of after.fundings.list p + amount_to p (newest queues (choice_of tested) s)
+        ≡ funds_of tested.fundings.list p
+    funds p = omega (arith, taken.funds p, ap (λ (xs : List Funding). funds_of xs p) same.fundings)
 
-    owed : (p : ℕ) → owed_of after.standings.list p + cond (eqb p s) (newest queues (choice_of tested) s).amount 0
-        ≡ owed_of tested.standings.list p
-    owed p = omega (arith, taken.owed p, ap (λ (xs : List Funding). owed_of xs p) same.standings)
+    owed : (p : ℕ) → owed_of after.fundings.list p + cond (eqb p s) (newest queues (choice_of tested) s).amount 0
+        ≡ owed_of tested.fundings.list p
+    owed p = omega (arith, taken.owed p, ap (λ (xs : List Funding). owed_of xs p) same.fundings)
 
     within : IsWithin queues (choice_of after)
     within p b =
@@ -185,31 +185,31 @@ IsResolving-taken positions queues s tested back after is short taken same sende
           | inl at ↦
               let less = short_has_fewer positions queues other (choice_of tested) s feasible
               (λ q c. is.largest.above other feasible q c) is.is_one
-              (λ covered. short (enough_from_IsCovered positions queues (choice_of tested) tested.standings.list s
-              is.is_one is.standings covered)) in
+              (λ covered. short (enough_from_IsCovered positions queues (choice_of tested) tested.fundings.list s
+              is.is_one is.fundings covered)) in
               subst (λ (q : ℕ). other q ≤ choice_of after q) (sym at) (omega (arith, less, fewer))
           | inr ne ↦ omega (arith, unchanged p ne, is.largest.above other feasible p b)
         ]
 
-    enough : (p : ℕ) → p < length queues → (IsWaiting after p → ⊥) → HasEnough after.standings.list p
+    enough : (p : ℕ) → p < length queues → (IsUntested after p → ⊥) → HasEnough after.fundings.list p
     enough p b off =
-        let not_sender : p ≡ s → ⊥ = λ at. off (subst (λ (q : ℕ). IsWaiting after q) (sym at) sender) in
+        let not_sender : p ≡ s → ⊥ = λ at. off (subst (λ (q : ℕ). IsUntested after q) (sym at) sender) in
         let not_receiver : (newest queues (choice_of tested) s).receiver ≡ p
-        → ⊥ = λ at. off (subst (λ (q : ℕ). IsWaiting after q) at receiver) in
+        → ⊥ = λ at. off (subst (λ (q : ℕ). IsUntested after q) at receiver) in
         let no_receipt : amount_to p (newest queues (choice_of tested) s)
         ≡ 0 = cond-false (eqb (newest queues (choice_of tested) s).receiver p) _ _ (ne_eqb _ _ not_receiver) in
         let no_sending : cond (eqb p s) (newest queues (choice_of tested) s).amount 0
         ≡ 0 = cond-false (eqb p s) _ _ (ne_eqb p s not_sender) in
-        let was = is.tested p b (λ on. off (others p (ap (λ (xs : List Bool). get_or xs p false) taken.waiting ∙ on)))
+        let was = is.tested p b (λ on. off (others p (ap (λ (xs : List Bool). get_or xs p false) taken.untested ∙ on)))
         not_sender in
         omega (arith, was, funds p, owed p, no_receipt, no_sending)
 
 -- a participant off the list is one fewer
 taken_count : (s : ℕ) (before taken tested : Workspace) → IsTaken s before taken → IsTested taken tested
-    → waiting_count tested + 1 ≡ waiting_count before
+    → untested_count tested + 1 ≡ untested_count before
 taken_count s before taken tested take test =
-    ap (λ (xs : List Bool). on_count xs + 1) (test.waiting ∙ take.2)
-    ∙ on_count-clear before.waiting s (omega (arith, take.0, before.waiting_sized)) take.1
+    ap (λ (xs : List Bool). on_count xs + 1) (test.untested ∙ take.2)
+    ∙ on_count-clear before.untested s (omega (arith, take.0, before.untested_sized)) take.1
 
 kept_count : (queues : List (List Payment)) (old new : Workspace) → new.lengths ≡ old.lengths
     → sum_below (length queues) (choice_of new) ≡ sum_below (length queues) (choice_of old)
@@ -217,14 +217,14 @@ kept_count queues old new e = ap (λ (v : Vec ℕ Global). sum_below (length que
 
 -- a test, a removal and the two tests that it may add were among the steps left
 pub steps_taken : (queues : List (List Payment)) (s : ℕ) (before taken tested back after : Workspace)
-    → s < length queues → SameButWaiting before taken → IsTaken s before taken → IsTested taken tested
-    → IsTakenBack queues s tested back → SameButWaiting back after
-    → steps_of after + waiting_count after ≤ steps_of back + waiting_count back + 2
+    → s < length queues → SameButUntested before taken → IsTaken s before taken → IsTested taken tested
+    → IsTakenBack queues s tested back → SameButUntested back after
+    → steps_of after + untested_count after ≤ steps_of back + untested_count back + 2
     → steps_left queues after + 2 ≤ steps_left queues before
 steps_taken queues s before taken tested back after is_one same take test removed listed two =
     let fell = sum_below_changed (length queues) (choice_of tested) (choice_of back) s 1 is_one (sym removed.fewer)
     (λ p ne. sym (removed.others p ne)) in
-    let waits = ap on_count removed.waiting in
+    let waits = ap on_count removed.untested in
     omega (
       arith,
       two,
@@ -237,9 +237,9 @@ steps_taken queues s before taken tested back after is_one same take test remove
       kept_count queues before tested (test.choice ∙ same.choice),
     )
 
--- when nobody is waiting, the lengths are those of the greatest choice
+-- when everybody is tested, the lengths are those of the greatest choice
 pub IsGreatest-resolved : (positions : List Position) (queues : List (List Payment)) (workspace : Workspace)
-    → waiting_count workspace ≡ 0 → IsResolving positions queues workspace
+    → untested_count workspace ≡ 0 → IsResolving positions queues workspace
     → IsGreatest positions queues (slice_index (lengths_of workspace))
 IsGreatest-resolved positions queues workspace none is =
     IsGreatest-same positions queues (choice_of workspace) (slice_index (lengths_of workspace))
@@ -247,8 +247,8 @@ IsGreatest-resolved positions queues workspace none is =
     (omega (arith, b, is.participants)))) (record {
       feasible = record {
         within = is.within;
-        covered = λ p b. IsCovered-from_standings positions queues (choice_of workspace) workspace.standings.list p b
-            is.standings (is.tested p b (λ on. false≢true (sym (none_is_on workspace.waiting none p) ∙ on)));
+        covered = λ p b. IsCovered-from_fundings positions queues (choice_of workspace) workspace.fundings.list p b
+            is.fundings (is.tested p b (λ on. false≢true (sym (none_is_on workspace.untested none p) ∙ on)));
       };
       largest = is.largest.above;
     })
@@ -259,12 +259,12 @@ less_one choice s t = cond (eqb t s) (choice t - 1) (choice t)
 
 -- the newest chosen payment is part of what its sender owes, and of what its receiver has
 newest_is_within : (positions : List Position) (queues : List (List Payment)) (choice : ℕ → ℕ)
-    (standings : List Funding) (s : ℕ) → s < length queues → 0 < choice s → choice s ≤ length (queue_of queues s)
+    (fundings : List Funding) (s : ℕ) → s < length queues → 0 < choice s → choice s ≤ length (queue_of queues s)
     → (newest queues choice s).receiver < length queues → (position_of positions
     (newest queues choice s).receiver).floor ≤ℤ (position_of positions (newest queues choice s).receiver).balance
-    → AreStandings positions queues choice standings → ((newest queues choice s).amount ≤ owed_of standings s)
-    × ((newest queues choice s).amount ≤ funds_of standings (newest queues choice s).receiver)
-newest_is_within positions queues choice standings s inside some within receives floored are = (
+    → AreFundings positions queues choice fundings → ((newest queues choice s).amount ≤ owed_of fundings s)
+    × ((newest queues choice s).amount ≤ funds_of fundings (newest queues choice s).receiver)
+newest_is_within positions queues choice fundings s inside some within receives floored are = (
   omega (arith, are.owed s inside, sent_taken queues choice (less_one choice s) s at within),
   omega (
     arith,
@@ -288,15 +288,15 @@ newest_is_within positions queues choice standings s inside some within receives
 
 -- a participant that is short has a payment to take back
 pub CanTakeBack-short : (positions : List Position) (queues : List (List Payment)) (s : ℕ) (tested : Workspace)
-    → AreInRange queues → IsTesting positions queues tested s → (HasEnough tested.standings.list s → ⊥)
+    → AreInRange queues → IsTesting positions queues tested s → (HasEnough tested.fundings.list s → ⊥)
     → CanTakeBack queues s tested
 CanTakeBack-short positions queues s tested in_range is short =
     let choice = choice_of tested in
     let some = short_has_one positions queues choice s (is.floored s is.is_one)
-    (λ covered. short (enough_from_IsCovered positions queues choice tested.standings.list s is.is_one is.standings
+    (λ covered. short (enough_from_IsCovered positions queues choice tested.fundings.list s is.is_one is.fundings
     covered)) in
     let receives = in_range s [] is.is_one (choice s - 1) (record { receiver = 0; amount = 0 })
     (omega (arith, some, is.within s is.is_one)) in
-    let parts = newest_is_within positions queues choice tested.standings.list s is.is_one some (is.within s is.is_one)
-    receives (is.floored _ receives) is.standings in
+    let parts = newest_is_within positions queues choice tested.fundings.list s is.is_one some (is.within s is.is_one)
+    receives (is.floored _ receives) is.fundings in
     record { some = some; within = is.within s is.is_one; receiver = receives; owed = parts.0; funds = parts.1 }

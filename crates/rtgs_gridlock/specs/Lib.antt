@@ -1,6 +1,6 @@
 pub mod Choices
+pub mod Fundings
 pub mod Laws
-pub mod Standings
 pub mod Listed
 pub mod Workspaces
 pub mod Resolving

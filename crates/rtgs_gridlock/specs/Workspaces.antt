@@ -5,7 +5,7 @@ use Rattle.rtgs_gridlock.specs.declared.positions.Position.{Position}
 use Rattle.rtgs_gridlock.specs.declared.queues.Payment.{Payment}
 use Rattle.rtgs_gridlock.specs.declared.workspace.Workspace.{Workspace}
 use Rattle.rtgs_gridlock.specs.Choices.{sum_below, queue_of, payment_count, amount_to}
-use Rattle.rtgs_gridlock.specs.Standings.{funds_of, owed_of, everything, AreStandings, IsCounted}
+use Rattle.rtgs_gridlock.specs.Fundings.{funds_of, owed_of, everything, AreFundings, IsCounted}
 use Rattle.rtgs_gridlock.specs.Listed.{IsOn, on_count}
 
 -- for how many participants there is room
@@ -26,24 +26,24 @@ lengths_of workspace = take workspace.participants workspace.lengths.items
 
 -- how many cover tests and removals were taken since the workspace was made
 abbrev pub steps_of : Workspace → ℕ
-steps_of workspace = workspace.standings.steps
+steps_of workspace = workspace.fundings.steps
 
 -- the present choice
 abbrev pub choice_of : Workspace → ℕ → ℕ
 choice_of workspace = slice_index workspace.lengths.items
 
 -- a participant is still to be tested
-abbrev pub IsWaiting : Workspace → ℕ → Type 0
-IsWaiting workspace p = IsOn workspace.waiting p
+abbrev pub IsUntested : Workspace → ℕ → Type 0
+IsUntested workspace p = IsOn workspace.untested p
 
 -- how many participants are still to be tested
-abbrev pub waiting_count : Workspace → ℕ
-waiting_count workspace = on_count workspace.waiting
+abbrev pub untested_count : Workspace → ℕ
+untested_count workspace = on_count workspace.untested
 
--- how many steps may still come: a test of each participant that waits, and for each chosen
+-- how many steps may still come: a test of each participant that is untested, and for each chosen
 -- payment its removal and two more tests
 abbrev pub steps_left : List (List Payment) → Workspace → ℕ
-steps_left queues workspace = waiting_count workspace + 3 * sum_below (length queues) (choice_of workspace)
+steps_left queues workspace = untested_count workspace + 3 * sum_below (length queues) (choice_of workspace)
 
 -- a participant's newest chosen payment
 abbrev pub newest : List (List Payment) → (ℕ → ℕ) → ℕ → Payment
@@ -55,9 +55,9 @@ pub record CanTakeBack (queues : List (List Payment)) (index : ℕ) (workspace :
   pub some : 0 < choice_of workspace index
   pub within : choice_of workspace index ≤ length (queue_of queues index)
   pub receiver : (newest queues (choice_of workspace) index).receiver < length queues
-  pub owed : (newest queues (choice_of workspace) index).amount ≤ owed_of workspace.standings.list index
+  pub owed : (newest queues (choice_of workspace) index).amount ≤ owed_of workspace.fundings.list index
   pub funds : (newest queues (choice_of workspace) index).amount
-      ≤ funds_of workspace.standings.list (newest queues (choice_of workspace) index).receiver
+      ≤ funds_of workspace.fundings.list (newest queues (choice_of workspace) index).receiver
 
 -- there is room for the participants and payments of the queues
 pub record HasRoomFor (workspace : Workspace) (queues : List (List Payment)) : Type 0 where
@@ -73,30 +73,30 @@ pub record KeepsRoom (old new : Workspace) : Type 0 where
 pub record IsFilled (positions : List Position) (queues : List (List Payment)) (old new : Workspace) : Type 0 where
   pub participants : participants_of new ≡ length queues
   pub choice : (p : ℕ) → p < length queues → choice_of new p ≡ everything queues p
-  pub standings : AreStandings positions queues (everything queues) new.standings.list
+  pub fundings : AreFundings positions queues (everything queues) new.fundings.list
   pub steps : steps_of new ≡ steps_of old
   pub room : KeepsRoom old new
 
 -- only the list of those still to be tested may differ
-pub record SameButWaiting (old new : Workspace) : Type 0 where
+pub record SameButUntested (old new : Workspace) : Type 0 where
   pub participants : participants_of new ≡ participants_of old
   pub choice : new.lengths ≡ old.lengths
-  pub standings : new.standings.list ≡ old.standings.list
+  pub fundings : new.fundings.list ≡ old.fundings.list
   pub steps : steps_of new ≡ steps_of old
   pub payments : reserved_payments new ≡ reserved_payments old
 
 -- both parties of a payment are still to be tested, and so is whoever was before
 pub record ListsParties (sender receiver : ℕ) (old new : Workspace) : Type 0 where
-  pub sender_waits : IsWaiting new sender
-  pub receiver_waits : IsWaiting new receiver
-  pub others_wait : (p : ℕ) → IsWaiting old p → IsWaiting new p
+  pub sender_waits : IsUntested new sender
+  pub receiver_waits : IsUntested new receiver
+  pub others_wait : (p : ℕ) → IsUntested old p → IsUntested new p
 
 -- a test counts, and changes nothing else
 pub record IsTested (old new : Workspace) : Type 0 where
   pub participants : participants_of new ≡ participants_of old
   pub choice : new.lengths ≡ old.lengths
-  pub standings : new.standings.list ≡ old.standings.list
-  pub waiting : new.waiting ≡ old.waiting
+  pub fundings : new.fundings.list ≡ old.fundings.list
+  pub untested : new.untested ≡ old.untested
   pub steps : IsCounted (steps_of old) (steps_of new)
   pub payments : reserved_payments new ≡ reserved_payments old
 
@@ -105,11 +105,11 @@ pub record IsTakenBack (queues : List (List Payment)) (index : ℕ) (old new : W
   pub participants : participants_of new ≡ participants_of old
   pub fewer : choice_of new index + 1 ≡ choice_of old index
   pub others : (p : ℕ) → (p ≡ index → ⊥) → choice_of new p ≡ choice_of old p
-  pub funds : (p : ℕ) → funds_of new.standings.list p + amount_to p (newest queues (choice_of old) index)
-      ≡ funds_of old.standings.list p
+  pub funds : (p : ℕ) → funds_of new.fundings.list p + amount_to p (newest queues (choice_of old) index)
+      ≡ funds_of old.fundings.list p
   pub owed : (p : ℕ) →
-      owed_of new.standings.list p + (if p == index then (newest queues (choice_of old) index).amount else 0)
-      ≡ owed_of old.standings.list p
-  pub waiting : new.waiting ≡ old.waiting
+      owed_of new.fundings.list p + (if p == index then (newest queues (choice_of old) index).amount else 0)
+      ≡ owed_of old.fundings.list p
+  pub untested : new.untested ≡ old.untested
   pub steps : IsCounted (steps_of old) (steps_of new)
   pub room : KeepsRoom old new

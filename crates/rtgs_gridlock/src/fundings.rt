@@ -4,7 +4,7 @@ ghost use Rattle.std.specs.Prelude.{sum_by, if◌then◌else◌};
 ghost use Rattle.rtgs_gridlock.specs.declared.queues.TheConstants.{LARGEST_AMOUNT};
 ghost use Rattle.rtgs_gridlock.specs.Choices.{amount_to, position_of, queue_of, payment_count, received, AreFloored};
 ghost use Rattle.rtgs_gridlock.specs.Choices.{AreInRange};
-ghost use Rattle.rtgs_gridlock.specs.Standings.{funds_of, owed_of, everything, HasEnough, AreStandings, IsCounted};
+ghost use Rattle.rtgs_gridlock.specs.Fundings.{funds_of, owed_of, everything, HasEnough, AreFundings, IsCounted};
 
 use crate::positions::Positions;
 use crate::queues::{Payment, Queues};
@@ -20,31 +20,31 @@ pub struct Funding {
     owed: u128,
 }
 
-/// Each participant's standing by the present choice, by its index, and how many steps were taken.
+/// Each participant's funding by the present choice, by its index, and how many steps were taken.
 /// A step is one cover test (`covers`) or one removal (`take_back`), and each counts itself. Only
 /// `reserve` begins at 0, and a count of 2^64 - 1 stays.
 #[derive(Drop)]
-pub struct Standings {
+pub struct Fundings {
     list: Vec<Funding>,
     steps: u64,
 }
 
-impl Model for Standings {
-    ghost use Rattle.rtgs_gridlock.specs.Standings.{CountedStandings};
+impl Model for Fundings {
+    ghost use Rattle.rtgs_gridlock.specs.Fundings.{CountedFundings};
 
-    ghost Value = { CountedStandings };
+    ghost Value = { CountedFundings };
 
-    ghost view = { λ standings. record { list = standings.list.items; steps = standings.steps } };
+    ghost view = { λ fundings. record { list = fundings.list.items; steps = fundings.steps } };
 }
 
-impl Standings {
+impl Fundings {
     /// Room for so many participants. No step has been taken.
-    pub fn reserve(alloc: Global, participants: usize) -> Result<Standings, AllocError>
-        ensures room { IfOk result (λ standings. length standings.list ≡ participants) }
-        ensures fresh { IfOk result (λ standings. standings.steps ≡ 0) }
+    pub fn reserve(alloc: Global, participants: usize) -> Result<Fundings, AllocError>
+        ensures room { IfOk result (λ fundings. length fundings.list ≡ participants) }
+        ensures fresh { IfOk result (λ fundings. fundings.steps ≡ 0) }
     {
         let list = vec![in alloc; Funding { funds: 0, owed: 0 }; participants]?;
-        Ok(Standings { list, steps: 0 })
+        Ok(Fundings { list, steps: 0 })
     }
 
     /// How many cover tests and removals were taken since room was reserved.
@@ -54,14 +54,14 @@ impl Standings {
         self.steps
     }
 
-    /// Makes the standings those of the choice of all payments. The count of steps goes on.
+    /// Makes the fundings those of the choice of all payments. The count of steps goes on.
     pub fn fill(&mut self, positions: &Positions, queues: &Queues)
         requires positions { length positions.now ≡ length queues.now }
         requires floored { AreFloored positions.now }
         requires receivers { AreInRange queues.now }
         requires few { payment_count queues.now < 2 ^ 64 }
         requires room { length queues.now ≤ length self.old.list }
-        ensures standings { AreStandings positions.now queues.now (everything queues.now) self.new.list }
+        ensures fundings { AreFundings positions.now queues.now (everything queues.now) self.new.list }
         ensures room { length self.new.list ≡ length self.old.list }
         ensures steps { self.new.steps ≡ self.old.steps }
     {
@@ -103,21 +103,21 @@ impl Standings {
     }
 }
 
-/// Each participant's standing with all payments sent and none received.
-fn open(standings: &mut [Funding], positions: &Positions, queues: &Queues)
+/// Each participant's funding with all payments sent and none received.
+fn open(fundings: &mut [Funding], positions: &Positions, queues: &Queues)
     requires positions { length positions.now ≡ length queues.now }
     requires floored { AreFloored positions.now }
-    requires standings { length queues.now ≤ length standings.old }
+    requires fundings { length queues.now ≤ length fundings.old }
     ensures funds { (p : ℕ) → p < length queues.now →
-        (position_of positions.now p).floor +ℤ pos (funds_of standings.new p) ≡ (position_of positions.now p).balance }
-    ensures small { (p : ℕ) → p < length queues.now → funds_of standings.new p < 2 ^ 64 }
+        (position_of positions.now p).floor +ℤ pos (funds_of fundings.new p) ≡ (position_of positions.now p).balance }
+    ensures small { (p : ℕ) → p < length queues.now → funds_of fundings.new p < 2 ^ 64 }
     ensures owed { (p : ℕ) → p < length queues.now →
-        owed_of standings.new p ≡ sum_by (λ payment. payment.amount) (queue_of queues.now p) }
+        owed_of fundings.new p ≡ sum_by (λ payment. payment.amount) (queue_of queues.now p) }
 {
     for index in 0..queues.len() {
         let funds = positions.headroom(index);
         let owed = total_of(queues.queue(index));
-        standings[index] = Funding { funds, owed };
+        fundings[index] = Funding { funds, owed };
     }
 }
 
@@ -135,34 +135,34 @@ fn total_of(payments: &[Payment]) -> u128
 }
 
 /// Adds to each participant's funds what all queued payments bring to it.
-fn credit_all(standings: &mut [Funding], queues: &Queues)
-    requires standings { length queues.now ≤ length standings.old }
+fn credit_all(fundings: &mut [Funding], queues: &Queues)
+    requires fundings { length queues.now ≤ length fundings.old }
     requires receivers { AreInRange queues.now }
     requires few { payment_count queues.now < 2 ^ 64 }
-    requires small { (p : ℕ) → p < length queues.now → funds_of standings.old p < 2 ^ 64 }
+    requires small { (p : ℕ) → p < length queues.now → funds_of fundings.old p < 2 ^ 64 }
     ensures funds { (p : ℕ) → p < length queues.now →
-        funds_of standings.new p ≡ funds_of standings.old p + received queues.now (everything queues.now) p }
-    ensures owed { (p : ℕ) → owed_of standings.new p ≡ owed_of standings.old p }
+        funds_of fundings.new p ≡ funds_of fundings.old p + received queues.now (everything queues.now) p }
+    ensures owed { (p : ℕ) → owed_of fundings.new p ≡ owed_of fundings.old p }
 {
     for index in 0..queues.len() {
-        credit(standings, queues.queue(index));
+        credit(fundings, queues.queue(index));
     }
 }
 
 /// Adds to each receiver's funds what the payments bring to it.
-fn credit(standings: &mut [Funding], payments: &[Payment])
-    requires receivers { All (λ payment. payment.receiver < length standings.old) payments.now }
+fn credit(fundings: &mut [Funding], payments: &[Payment])
+    requires receivers { All (λ payment. payment.receiver < length fundings.old) payments.now }
     requires room { All
-        (λ payment. funds_of standings.old payment.receiver + length payments.now * LARGEST_AMOUNT < 2 ^ 128)
+        (λ payment. funds_of fundings.old payment.receiver + length payments.now * LARGEST_AMOUNT < 2 ^ 128)
         payments.now }
-    ensures funds { (p : ℕ) → p < length standings.old →
-        funds_of standings.new p ≡ funds_of standings.old p + sum_by (amount_to p) payments.now }
-    ensures small { (p : ℕ) → p < length standings.old →
+    ensures funds { (p : ℕ) → p < length fundings.old →
+        funds_of fundings.new p ≡ funds_of fundings.old p + sum_by (amount_to p) payments.now }
+    ensures small { (p : ℕ) → p < length fundings.old →
         sum_by (amount_to p) payments.now ≤ length payments.now * LARGEST_AMOUNT }
-    ensures owed { (p : ℕ) → owed_of standings.new p ≡ owed_of standings.old p }
+    ensures owed { (p : ℕ) → owed_of fundings.new p ≡ owed_of fundings.old p }
 {
     for payment in payments {
-        let standing = &mut standings[payment.receiver];
-        standing.funds += u128::from(payment.amount);
+        let funding = &mut fundings[payment.receiver];
+        funding.funds += u128::from(payment.amount);
     }
 }

@@ -3,12 +3,12 @@
 //! of queue beginnings that leaves no participant below its floor, under the first-in-first-out
 //! rule of Bech and Soramäki, "Gridlock resolution in interbank payment systems" (2001).
 
+mod fundings;
 mod laws;
 mod out_of_memory;
 mod positions;
 mod queues;
 mod resolver;
-mod standings;
 mod worklist;
 mod workspace;
 

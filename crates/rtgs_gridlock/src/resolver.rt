@@ -3,7 +3,7 @@ ghost use Rattle.std.specs.Prelude.{◌≡◌, ◌+◌, ◌*◌, ◌^◌, ◌<�
 ghost use Rattle.rtgs_gridlock.specs.declared.positions.Position.{Position};
 ghost use Rattle.rtgs_gridlock.specs.Choices.{payment_count, AreInRange, AreResolvable, IsGreatest};
 ghost use Rattle.rtgs_gridlock.specs.Workspaces.{reserved_participants, reserved_payments, lengths_of};
-ghost use Rattle.rtgs_gridlock.specs.Workspaces.{steps_of, steps_left, waiting_count, HasRoomFor, KeepsRoom};
+ghost use Rattle.rtgs_gridlock.specs.Workspaces.{steps_of, steps_left, untested_count, HasRoomFor, KeepsRoom};
 ghost use Rattle.rtgs_gridlock.specs.Resolving.{IsResolving};
 
 use crate::positions::Positions;
@@ -70,7 +70,7 @@ fn turn(queues: &Queues, workspace: &mut Workspace) -> bool
     ensures resolving { (positions : List Position) → IsResolving positions queues.now workspace.old →
         IsResolving positions queues.now workspace.new }
     ensures ended { IsFalse result →
-        (waiting_count workspace.new ≡ 0) × (steps_of workspace.new ≡ steps_of workspace.old) }
+        (untested_count workspace.new ≡ 0) × (steps_of workspace.new ≡ steps_of workspace.old) }
     ensures fewer { IsTrue result → steps_left queues.now workspace.new < steps_left queues.now workspace.old }
     ensures counted { steps_of workspace.old ≤ steps_of workspace.new }
 
@@ -79,7 +79,7 @@ fn turn(queues: &Queues, workspace: &mut Workspace) -> bool
         ≤ steps_of workspace.old + steps_left queues.now workspace.old }
     ensures room { KeepsRoom workspace.old workspace.new }
 {
-    let Some(index) = workspace.next_waiting() else {
+    let Some(index) = workspace.next_untested() else {
         return false;
     };
     if !workspace.covered(index) {

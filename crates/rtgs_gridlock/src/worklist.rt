@@ -10,7 +10,7 @@ use std::marker::Model;
 #[derive(Drop)]
 pub struct Worklist {
     stack: Vec<usize>,
-    is_waiting: Vec<bool>,
+    is_listed: Vec<bool>,
 }
 
 impl Model for Worklist {
@@ -19,10 +19,10 @@ impl Model for Worklist {
 
     ghost Value = { List Bool };
 
-    ghost view = { λ w. w.is_waiting.items };
+    ghost view = { λ w. w.is_listed.items };
 
-    ghost invariant = { λ w. IsListed w.stack.items w.is_waiting.items
-        × (vec_len w.is_waiting ≤ vec_capacity w.stack) };
+    ghost invariant = { λ w. IsListed w.stack.items w.is_listed.items
+        × (vec_len w.is_listed ≤ vec_capacity w.stack) };
 }
 
 impl Worklist {
@@ -31,8 +31,8 @@ impl Worklist {
         ensures { IfOk result (λ list. list ≡ replicate capacity false) }
     {
         let stack = Vec::with_capacity(alloc, capacity)?;
-        let is_waiting = vec![in alloc; false; capacity]?;
-        Ok(Worklist { stack, is_waiting })
+        let is_listed = vec![in alloc; false; capacity]?;
+        Ok(Worklist { stack, is_listed })
     }
 
     /// Adds an index, where it isn't there.
@@ -40,8 +40,8 @@ impl Worklist {
         requires { index < length self.old }
         ensures { self.new ≡ slice_set self.old index true }
     {
-        if !self.is_waiting[index] {
-            self.is_waiting[index] = true;
+        if !self.is_listed[index] {
+            self.is_listed[index] = true;
             self.stack.push_reserved(index);
         }
     }
@@ -53,7 +53,7 @@ impl Worklist {
             (λ index. (index < length self.old) × IsOn self.old index × (self.new ≡ slice_set self.old index false)) }
     {
         let index = self.stack.pop()?;
-        self.is_waiting[index] = false;
+        self.is_listed[index] = false;
         Some(index)
     }
 

@@ -2,36 +2,36 @@
 ghost use Rattle.std.specs.Prelude.{◌≡◌, [], ℕ, ◌+◌, ◌^◌, ◌<◌, ◌≤◌, ◌↔◌, IsTrue, IfOk, MatchOption, false, length};
 ghost use Rattle.std.specs.Prelude.{slice_set, slice_index, vec_len};
 ghost use Rattle.rtgs_gridlock.specs.Choices.{payment_count, AreResolvable};
-ghost use Rattle.rtgs_gridlock.specs.Standings.{everything, HasEnough};
+ghost use Rattle.rtgs_gridlock.specs.Fundings.{everything, HasEnough};
 
+use crate::fundings::Fundings;
 use crate::out_of_memory::OutOfMemory;
 use crate::positions::Positions;
 use crate::queues::{Payment, Queues};
-use crate::standings::Standings;
 use crate::worklist::Worklist;
 use std::alloc::Global;
 
-/// The room that a resolution needs: the present choice, each participant's standing by it, and
+/// The room that a resolution needs: the present choice, each participant's funding by it, and
 /// the participants that are still to be tested. After filling, a cover test (`covered`) and a
-/// removal (`take_back`) are the only ways to the standings, and the standings count each as a
+/// removal (`take_back`) are the only ways to the fundings, and the fundings count each as a
 /// step.
 #[derive(Drop)]
 pub struct Workspace {
     participants: usize,
     payments: usize,
     lengths: Vec<usize>,
-    standings: Standings,
-    waiting: Worklist,
+    fundings: Fundings,
+    untested: Worklist,
     ghost lengths_sized: { participants ≤ vec_len lengths },
-    ghost standings_sized: { length standings.list ≡ vec_len lengths },
-    ghost waiting_sized: { length waiting ≡ vec_len lengths },
+    ghost fundings_sized: { length fundings.list ≡ vec_len lengths },
+    ghost untested_sized: { length untested ≡ vec_len lengths },
 }
 
 impl Workspace {
     ghost use Rattle.rtgs_gridlock.specs.Workspaces.{reserved_participants, reserved_payments, participants_of};
-    ghost use Rattle.rtgs_gridlock.specs.Workspaces.{lengths_of, choice_of, steps_of, waiting_count, newest, IsWaiting};
-    ghost use Rattle.rtgs_gridlock.specs.Workspaces.{IsFilled, IsTested, CanTakeBack, IsTakenBack};
-    ghost use Rattle.rtgs_gridlock.specs.Workspaces.{SameButWaiting, ListsParties};
+    ghost use Rattle.rtgs_gridlock.specs.Workspaces.{lengths_of, choice_of, steps_of, untested_count, newest};
+    ghost use Rattle.rtgs_gridlock.specs.Workspaces.{IsUntested, IsFilled, IsTested, CanTakeBack, IsTakenBack};
+    ghost use Rattle.rtgs_gridlock.specs.Workspaces.{SameButUntested, ListsParties};
 
     /// Room for so many participants. A resolution may then have so many queued payments, which
     /// need no room of their own.
@@ -46,14 +46,14 @@ impl Workspace {
         ensures fresh { IfOk result (λ workspace. steps_of workspace ≡ 0) }
     {
         let lengths = vec![in alloc; 0; participants]?;
-        let standings = Standings::reserve(alloc, participants)?;
-        let waiting = Worklist::reserve(alloc, participants)?;
+        let fundings = Fundings::reserve(alloc, participants)?;
+        let untested = Worklist::reserve(alloc, participants)?;
         Ok(Workspace {
             participants: 0,
             payments,
             lengths,
-            standings,
-            waiting,
+            fundings,
+            untested,
         })
     }
 
@@ -70,10 +70,10 @@ impl Workspace {
     pub fn steps(&self) -> u64
         ensures { result ≡ steps_of self.now }
     {
-        self.standings.steps()
+        self.fundings.steps()
     }
 
-    /// Chooses all payments, and fills in each participant's standing by them. The count of steps
+    /// Chooses all payments, and fills in each participant's funding by them. The count of steps
     /// goes on.
     pub(crate) fn fill(&mut self, positions: &Positions, queues: &Queues)
         requires resolvable { AreResolvable positions.now queues.now }
@@ -86,16 +86,16 @@ impl Workspace {
         let _payments = self.payments;
         self.participants = queues.len();
         choose_all(&mut self.lengths, queues);
-        self.standings.fill(positions, queues);
+        self.fundings.fill(positions, queues);
     }
 
     /// Whether a participant's position is at least its floor. It counts as a step.
     pub(crate) fn covered(&mut self, index: usize) -> bool
         requires index { index < reserved_participants self.old }
-        ensures answer { IsTrue result ↔ HasEnough self.new.standings.list index }
+        ensures answer { IsTrue result ↔ HasEnough self.new.fundings.list index }
         ensures tested { IsTested self.old self.new }
     {
-        self.standings.covers(index)
+        self.fundings.covers(index)
     }
 
     /// Takes back the newest chosen payment of a participant, and says which it was: its sender's
@@ -110,29 +110,29 @@ impl Workspace {
         let place = self.lengths[index] - 1;
         let payment = queues.payment(index, place);
         self.lengths[index] = place;
-        self.standings.take_back(index, payment);
+        self.fundings.take_back(index, payment);
         payment
     }
 
     /// Takes a participant out of the list of those still to be tested.
-    pub(crate) fn next_waiting(&mut self) -> Option<usize>
-        ensures same { SameButWaiting self.old self.new }
+    pub(crate) fn next_untested(&mut self) -> Option<usize>
+        ensures same { SameButUntested self.old self.new }
         ensures taken { MatchOption result
-            ((self.new.waiting ≡ self.old.waiting) × (waiting_count self.old ≡ 0))
-            (λ index. (index < reserved_participants self.old) × IsWaiting self.old index
-            × (self.new.waiting ≡ slice_set self.old.waiting index false)) }
+            ((self.new.untested ≡ self.old.untested) × (untested_count self.old ≡ 0))
+            (λ index. (index < reserved_participants self.old) × IsUntested self.old index
+            × (self.new.untested ≡ slice_set self.old.untested index false)) }
     {
-        self.waiting.take()
+        self.untested.take()
     }
 
     /// Puts every participant on the list of those still to be tested.
     pub(crate) fn list_all(&mut self)
-        ensures same { SameButWaiting self.old self.new }
-        ensures all { (p : ℕ) → p < participants_of self.old → IsWaiting self.new p }
-        ensures inside { (p : ℕ) → IsWaiting self.new p → p < participants_of self.old }
-        ensures few { waiting_count self.new ≤ participants_of self.old }
+        ensures same { SameButUntested self.old self.new }
+        ensures all { (p : ℕ) → p < participants_of self.old → IsUntested self.new p }
+        ensures inside { (p : ℕ) → IsUntested self.new p → p < participants_of self.old }
+        ensures few { untested_count self.new ≤ participants_of self.old }
     {
-        self.waiting.fill(self.participants);
+        self.untested.fill(self.participants);
     }
 
     /// Puts both parties of a payment on the list of those still to be tested. Two more tests are
@@ -140,14 +140,14 @@ impl Workspace {
     pub(crate) fn list_parties(&mut self, sender: usize, receiver: usize)
         requires sender { sender < participants_of self.old }
         requires receiver { receiver < participants_of self.old }
-        requires inside { (p : ℕ) → IsWaiting self.old p → p < participants_of self.old }
-        ensures same { SameButWaiting self.old self.new }
+        requires inside { (p : ℕ) → IsUntested self.old p → p < participants_of self.old }
+        ensures same { SameButUntested self.old self.new }
         ensures listed { ListsParties sender receiver self.old self.new }
-        ensures inside { (p : ℕ) → IsWaiting self.new p → p < participants_of self.old }
-        ensures steps { steps_of self.new + waiting_count self.new ≤ steps_of self.old + waiting_count self.old + 2 }
+        ensures inside { (p : ℕ) → IsUntested self.new p → p < participants_of self.old }
+        ensures steps { steps_of self.new + untested_count self.new ≤ steps_of self.old + untested_count self.old + 2 }
     {
-        self.waiting.put(sender);
-        self.waiting.put(receiver);
+        self.untested.put(sender);
+        self.untested.put(receiver);
     }
 }
 

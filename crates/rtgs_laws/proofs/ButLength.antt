@@ -5,12 +5,12 @@ use Rattle.rtgs_book.specs.declared.limits.TheConstants.{LONGEST_QUEUE}
 use Rattle.rtgs_book.specs.declared.book.Book.{Book}
 use Rattle.rtgs_book.specs.declared.order.Order.{Order}
 use Rattle.rtgs_book.specs.Books.{is_closed, is_queued}
-use Rattle.rtgs_book.specs.Lookup.{accounts}
+use Rattle.rtgs_book.specs.Lookup.{codes_of}
 use Rattle.rtgs_book.specs.Queue.{waiting}
 use Rattle.rtgs_book.specs.Settle.{today}
 use Rattle.rtgs_book.specs.Soundness.{OrdersAreNumbered, PostingsAreNumbered, MarksAreNumbered, CodesRise}
 use Rattle.rtgs_book.specs.Soundness.{KeysAreDistinct, OrderReferencesAreDistinct, PostingReferencesAreDistinct}
-use Rattle.rtgs_book.specs.Soundness.{PartiesAreKnown, MarksFitOrders, DatesFit, FloorsHold, TotalFits, ChoiceFits}
+use Rattle.rtgs_book.specs.Soundness.{PartiesAreKnown, MarksFitOrders, DatesFit, FloorsHold, TotalFits, AutomaticFits}
 use Rattle.rtgs_book.specs.Soundness.{IsSound}
 
 pub record QueuesStand (book : Book) : Type 0 where
@@ -19,7 +19,7 @@ pub record QueuesStand (book : Book) : Type 0 where
 
 -- at most LONGEST_QUEUE orders of each sender wait
 abbrev pub FewWait : Book → Type 0
-FewWait book = AllByRecursion (λ code. length (waiting book code) ≤ LONGEST_QUEUE) (accounts book)
+FewWait book = AllByRecursion (λ code. length (waiting book code) ≤ LONGEST_QUEUE) (codes_of book)
 
 pub record IsSoundButLength (book : Book) : Type 0 where
   pub orders_numbered : OrdersAreNumbered book
@@ -35,7 +35,7 @@ pub record IsSoundButLength (book : Book) : Type 0 where
   pub dates : DatesFit book
   pub floors : FloorsHold book
   pub total_fits : TotalFits book
-  pub choice_fits : ChoiceFits book
+  pub automatic_fits : AutomaticFits book
 
 pub but_length : (book : Book) → IsSound book → IsSoundButLength book
 but_length book h = record {
@@ -52,7 +52,7 @@ but_length book h = record {
   dates = h.dates;
   floors = h.floors;
   total_fits = h.total_fits;
-  choice_fits = h.choice_fits;
+  automatic_fits = h.automatic_fits;
 }
 
 pub with_length : (book : Book) → IsSoundButLength book → FewWait book → IsSound book
@@ -70,5 +70,5 @@ with_length book h short = record {
   dates = h.dates;
   floors = h.floors;
   total_fits = h.total_fits;
-  choice_fits = h.choice_fits;
+  automatic_fits = h.automatic_fits;
 }

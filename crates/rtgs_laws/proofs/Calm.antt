@@ -22,7 +22,7 @@ use Rattle.rtgs_book.specs.Choice.{Choice, is_chosen, chosen, balance_after, IsF
 use Rattle.rtgs_book.specs.Commands.{add, set_credit, post, open_day, order, withdraw, resolve, cut_off, close_day}
 use Rattle.rtgs_book.specs.Commands.{with_participant, with_day, takes, takes_due, settles_at_once, taken_order}
 use Rattle.rtgs_book.specs.IntSum.{int_sum_by}
-use Rattle.rtgs_book.specs.Lookup.{has_code, accounts, is_participant, credit_of, participant_of}
+use Rattle.rtgs_book.specs.Lookup.{has_code, codes_of, is_participant, credit_of, participant_of}
 use Rattle.rtgs_book.specs.Outcome.{OwnReply, Reply, Outcome, first_of, is_done}
 use Rattle.rtgs_book.specs.Run.{Run}
 use Rattle.rtgs_book.specs.Queue.{queue, orders_before}
@@ -60,14 +60,14 @@ SettledBalances = (book : Book) (choice : Choice) (code : List ℕ)
 -- a sum over what is chosen is the sum over the beginnings of all queues
 pub by_queues : ChosenAreBeginnings → (book : Book) (choice : Choice) (f : Order → ℤ) → IsSound book
     → int_sum_by f (chosen book choice) ≡ int_sum_by (λ code. int_sum_by f (take (choice code) (queue book code)))
-    (accounts book)
+    (codes_of book)
 unfolding chosen is_participant
 by_queues law book choice f h =
-    sym (by_senders (accounts book) h.codes_rise.0 f (chosen book choice)
+    sym (by_senders (codes_of book) h.codes_rise.0 f (chosen book choice)
     (all_filter _ (is_chosen book choice) book.orders (all_weaker (λ o. has_parties book o ≡ true)
-    (λ (o : Order). list_any (bytes_eq o.sender) (accounts book) ≡ true) (λ o e. first_of_three _ _ _ e) book.orders
+    (λ (o : Order). list_any (bytes_eq o.sender) (codes_of book) ≡ true) (λ o e. first_of_three _ _ _ e) book.orders
     h.parties.0)))
-    ∙ int_sum_by-same _ _ (λ code. ap (int_sum_by f) (law book choice code h.orders_numbered)) (accounts book)
+    ∙ int_sum_by-same _ _ (λ code. ap (int_sum_by f) (law book choice code h.orders_numbered)) (codes_of book)
 
 settle-day : (book : Book) (is_in : Order → Bool) → (settle book is_in).day ≡ book.day
 settle-day book is_in = settled_either (λ new. new.day ≡ book.day) book is_in refl (λ _. refl)
@@ -76,8 +76,8 @@ settle-participants : (book : Book) (is_in : Order → Bool) → (settle book is
 settle-participants book is_in = settled_either (λ new. new.participants ≡ book.participants) book is_in refl
     (λ _. refl)
 
-same_accounts : (old new : Book) → new.participants ≡ old.participants → accounts new ≡ accounts old
-unfolding accounts
+same_accounts : (old new : Book) → new.participants ≡ old.participants → codes_of new ≡ codes_of old
+unfolding codes_of
 same_accounts old new same = ap (map (λ (p : Participant). p.code)) same
 
 same_floor : (old new : Book) (code : List ℕ) → new.participants ≡ old.participants → new.day ≡ old.day
@@ -108,12 +108,12 @@ module _ (beginnings : ChosenAreBeginnings) (rest : RestStaysQueued) (balances :
         ≡ int_sum_by f (chosen old choice) +ℤ int_sum_by f (chosen mid next)
     sums f =
         by_queues beginnings old together f sound
-        ∙ int_sum_by-same _ _ (part f) (accounts old)
+        ∙ int_sum_by-same _ _ (part f) (codes_of old)
         ∙ int_sum_by-both (λ code. int_sum_by f (take (choice code) (queue old code)))
-        (λ code. int_sum_by f (take (next code) (queue mid code))) (accounts old)
+        (λ code. int_sum_by f (take (next code) (queue mid code))) (codes_of old)
         ∙ (λ i. sym (by_queues beginnings old choice f sound) i +ℤ later i)
       where
-        later : int_sum_by (λ code. int_sum_by f (take (next code) (queue mid code))) (accounts old)
+        later : int_sum_by (λ code. int_sum_by f (take (next code) (queue mid code))) (codes_of old)
             ≡ int_sum_by f (chosen mid next)
         later = ap (int_sum_by (λ code. int_sum_by f (take (next code) (queue mid code))))
             (sym (same_accounts old mid (settle-participants old (is_chosen old choice))))
@@ -140,7 +140,7 @@ module _ (beginnings : ChosenAreBeginnings) (rest : RestStaysQueued) (balances :
           (same_accounts old mid (settle-participants old (is_chosen old choice)))
           (all_weaker (λ code. floor mid code ≤ℤ balance_after mid next code)
           (λ code. floor old code ≤ℤ balance_after old together code)
-          (λ code le. moved code le) (accounts mid) k.covered);
+          (λ code le. moved code le) (codes_of mid) k.covered);
     }
       where
         moved : (code : List ℕ) → floor mid code ≤ℤ balance_after mid next code
@@ -288,10 +288,10 @@ module _ (beginnings : ChosenAreBeginnings) (rest : RestStaysQueued) (balances :
 
 cut_feasible : (old : Book) (choice : Choice) → is_closed old.day.phase ≡ false
     → IsFeasible (with_day old (record old.day { phase = phase.CutOff })) choice → IsFeasible old choice
-unfolding balance_after chosen is_chosen orders_before queue balance floor credit_of participant_of accounts
+unfolding balance_after chosen is_chosen orders_before queue balance floor credit_of participant_of codes_of
 cut_feasible old choice opened f = record {
   within = f.within;
-  covered = all_weaker _ _ (λ code x. rw opened x) (accounts old) f.covered;
+  covered = all_weaker _ _ (λ code x. rw opened x) (codes_of old) f.covered;
 }
 
 -- ---- each command

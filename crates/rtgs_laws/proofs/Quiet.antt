@@ -16,7 +16,7 @@ use Rattle.rtgs_book.specs.Balance.{balance, floor, gain}
 use Rattle.rtgs_book.specs.Calm.{IsCalm}
 use Rattle.rtgs_book.specs.Choice.{Choice, is_chosen, chosen, balance_after, IsFeasible}
 use Rattle.rtgs_book.specs.IntSum.{int_sum_by}
-use Rattle.rtgs_book.specs.Lookup.{accounts, is_participant}
+use Rattle.rtgs_book.specs.Lookup.{codes_of, is_participant}
 use Rattle.rtgs_book.specs.Queue.{queue, orders_before}
 use Rattle.rtgs_book.specs.Soundness.{IsSound}
 use Rattle.rtgs_laws.specs.Quiet.{AreOutOfReach, FreesNothing, GainsNothing, KeepsQueue, queued_to, value_of}
@@ -142,7 +142,7 @@ module _ (beginnings : ChosenAreBeginnings) (old new : Book) (sound : IsSound ol
         → floor new code ≤ℤ balance_after new choice code
     unfolding is_participant
     covered_there code known =
-        at_of (λ c. floor new c ≤ℤ balance_after new choice c) code (accounts new) known f.covered
+        at_of (λ c. floor new c ≤ℤ balance_after new choice c) code (codes_of new) known f.covered
 
     -- what is chosen of a queue was at its beginning before
     starts : (code : List ℕ) → (choice code ≤ length (queue old code))
@@ -172,7 +172,7 @@ module _ (beginnings : ChosenAreBeginnings) (old new : Book) (sound : IsSound ol
     sums : (g : Order → ℤ) → int_sum_by g (chosen old choice) ≡ int_sum_by g (chosen new choice)
     sums g =
         by_queues beginnings old choice g sound
-        ∙ int_sum_by-same _ _ (λ code. ap (int_sum_by g) (starts code).1) (accounts old)
+        ∙ int_sum_by-same _ _ (λ code. ap (int_sum_by g) (starts code).1) (codes_of old)
         ∙ ap (int_sum_by (λ code. int_sum_by g (take (choice code) (queue new code)))) (sym frees.accounts_stay)
         ∙ sym (by_queues beginnings new choice g sound_new)
 
@@ -211,13 +211,13 @@ module _ (beginnings : ChosenAreBeginnings) (old new : Book) (sound : IsSound ol
       covered = all_both (λ code. floor old code ≤ℤ balance old code)
           (λ code. (is_empty (queue new code) ≡ false → GainsNothing old new code)
           × (floor new code ≤ℤ balance_after new choice code))
-          (λ code. floor old code ≤ℤ balance_after old choice code) covered_at (accounts old) sound.floors
+          (λ code. floor old code ≤ℤ balance_after old choice code) covered_at (codes_of old) sound.floors
           (subst (AllByRecursion (λ code. (is_empty (queue new code) ≡ false → GainsNothing old new code)
           × (floor new code ≤ℤ balance_after new choice code))) frees.accounts_stay
           (all_both (λ code. is_empty (queue new code) ≡ false → GainsNothing old new code)
           (λ code. floor new code ≤ℤ balance_after new choice code)
           (λ code. (is_empty (queue new code) ≡ false → GainsNothing old new code)
-          × (floor new code ≤ℤ balance_after new choice code)) (λ code x y. (x, y)) (accounts new) frees.gains
+          × (floor new code ≤ℤ balance_after new choice code)) (λ code x y. (x, y)) (codes_of new) frees.gains
           f.covered));
     }
 

@@ -16,7 +16,7 @@ use Rattle.rtgs_book.specs.declared.participant.Participant.{Participant}
 use Rattle.rtgs_book.specs.declared.posting.Posting.{Posting}
 use Rattle.rtgs_book.specs.Books.{is_closed, is_waiting}
 use Rattle.rtgs_book.specs.Choice.{Choice, is_chosen, chosen, balance_after, IsFeasible}
-use Rattle.rtgs_book.specs.Lookup.{has_code, participant_of, credit_of, accounts, is_participant}
+use Rattle.rtgs_book.specs.Lookup.{has_code, participant_of, credit_of, codes_of, is_participant}
 use Rattle.rtgs_book.specs.IntSum.{int_sum_by}
 use Rattle.rtgs_book.specs.Balance.{balance, floor, total}
 use Rattle.rtgs_book.specs.Queue.{queue, orders_before, waiting}
@@ -140,13 +140,13 @@ module _ (laws : BookLaws) (book : Book) (code full key : List ℕ) (h : IsSound
   abbrev new : Participant
   new = record { code = code; name = full; key = key; credit = 0 }
 
-  unused : AllByRecursion (λ c. bytes_eq c code ≡ false) (accounts book)
-  unfolding accounts
+  unused : AllByRecursion (λ c. bytes_eq c code ≡ false) (codes_of book)
+  unfolding codes_of
   unused = all_map (λ c. bytes_eq c code ≡ false) (λ (p : Participant). p.code) book.participants free
 
-  accounts-with_participant : accounts (with_participant book new)
-      ≡ put_in (λ c. is_before c code) code (accounts book)
-  unfolding accounts with_participant
+  accounts-with_participant : codes_of (with_participant book new)
+      ≡ put_in (λ c. is_before c code) code (codes_of book)
+  unfolding codes_of with_participant
   accounts-with_participant =
       map-append (λ (p : Participant). p.code) (filter (comes_before code) book.participants)
       (new ∷ filter (λ p. not (comes_before code p)) book.participants)
@@ -157,12 +157,12 @@ module _ (laws : BookLaws) (book : Book) (code full key : List ℕ) (h : IsSound
   unsent : AllByRecursion (λ (o : Order). bytes_eq o.sender code ≡ false) book.orders
   unfolding is_participant
   unsent = all_weaker (λ o. has_parties book o ≡ true) (λ (o : Order). bytes_eq o.sender code ≡ false)
-      (λ o e. apart_from o.sender code (accounts book) unused (and_left _ _ (and_left _ _ e))) book.orders
+      (λ o e. apart_from o.sender code (codes_of book) unused (and_left _ _ (and_left _ _ e))) book.orders
       h.parties.0
 
   balance_none : balance book code ≡ pos 0
   unfolding is_participant
-  balance_none = laws.unknown book code h (nobody (accounts book) unused)
+  balance_none = laws.unknown book code h (nobody (codes_of book) unused)
     where
       nobody : (codes : List (List ℕ)) → AllByRecursion (λ c. bytes_eq c code ≡ false) codes
           → list_any (bytes_eq code) codes ≡ false
@@ -171,16 +171,16 @@ module _ (laws : BookLaws) (book : Book) (code full key : List ℕ) (h : IsSound
 
   still_known : (c : List ℕ) → is_participant book c ≡ true → is_participant (with_participant book new) c ≡ true
   unfolding is_participant
-  still_known c e = rw accounts-with_participant (any-put_in (bytes_eq c) (λ c. is_before c code) code (accounts book)
+  still_known c e = rw accounts-with_participant (any-put_in (bytes_eq c) (λ c. is_before c code) code (codes_of book)
       e)
 
   balance_same : (c : List ℕ) → balance (with_participant book new) c ≡ balance book c
   unfolding balance with_participant
   balance_same c = refl
 
-  few : length book.participants < MOST_PARTICIPANTS → length (put_in (λ c. is_before c code) code (accounts book))
-      ≡ length (accounts book) + 1 → length (put_in (λ c. is_before c code) code (accounts book)) ≤ MOST_PARTICIPANTS
-  unfolding accounts
+  few : length book.participants < MOST_PARTICIPANTS → length (put_in (λ c. is_before c code) code (codes_of book))
+      ≡ length (codes_of book) + 1 → length (put_in (λ c. is_before c code) code (codes_of book)) ≤ MOST_PARTICIPANTS
+  unfolding codes_of
   few room many = let long = length-map book.participants (λ (p : Participant). p.code) in omega arith
 
   floor_low : floor (with_participant book new) code ≤ℤ pos 0
@@ -204,9 +204,9 @@ module _ (laws : BookLaws) (book : Book) (code full key : List ℕ) (h : IsSound
     covered = all_both (λ c. bytes_eq c code ≡ false)
         (λ c. floor (with_participant book new) c ≤ℤ balance_after (with_participant book new) choice c)
         (λ c. floor book c ≤ℤ balance_after book choice c)
-        (λ c e x. subst (λ z. z ≤ℤ balance_after book choice c) (floor_same c e) x) (accounts book) unused
+        (λ c e x. subst (λ z. z ≤ℤ balance_after book choice c) (floor_same c e) x) (codes_of book) unused
         (all_put_out (λ c. floor (with_participant book new) c ≤ℤ balance_after (with_participant book new) choice c)
-        (λ c. is_before c code) code (accounts book)
+        (λ c. is_before c code) code (codes_of book)
         (subst (AllByRecursion (λ c. floor (with_participant book new) c
         ≤ℤ balance_after (with_participant book new) choice c)) accounts-with_participant f.covered));
   }
@@ -226,8 +226,8 @@ module _ (laws : BookLaws) (book : Book) (code full key : List ℕ) (h : IsSound
   unfolding total
   total_same = ap (λ (codes : List (List ℕ)). int_sum_by (balance (with_participant book new)) codes)
       accounts-with_participant
-      ∙ ap (λ (f : List ℕ → ℤ). int_sum_by f (put_in (λ c. is_before c code) code (accounts book))) (λ i c. same c i)
-      ∙ sum-put_in (balance book) (λ c. is_before c code) code (accounts book)
+      ∙ ap (λ (f : List ℕ → ℤ). int_sum_by f (put_in (λ c. is_before c code) code (codes_of book))) (λ i c. same c i)
+      ∙ sum-put_in (balance book) (λ c. is_before c code) code (codes_of book)
       ∙ zero_first _ _ balance_none
     where
       same : (c : List ℕ) → balance (with_participant book new) c ≡ balance book c
@@ -241,12 +241,12 @@ module _ (laws : BookLaws) (book : Book) (code full key : List ℕ) (h : IsSound
   unfolding with_participant waiting
   participant_sound keys room =
       let same = accounts-with_participant in
-      let many = length-put_in (λ c. is_before c code) code (accounts book) in
+      let many = length-put_in (λ c. is_before c code) code (codes_of book) in
       record {
         orders_numbered = h.orders_numbered;
         postings_numbered = h.postings_numbered;
         marks_numbered = h.marks_numbered;
-        codes_rise = rw same (sorted_put_in code (accounts book) h.codes_rise.0 unused, few room many);
+        codes_rise = rw same (sorted_put_in code (codes_of book) h.codes_rise.0 unused, few room many);
         keys_distinct = distinct_put_in bytes_eq bytes_eq_comm (λ (p : Participant). p.key) (comes_before code) new
             book.participants h.keys_distinct keys;
         order_references = h.order_references;
@@ -266,7 +266,7 @@ module _ (laws : BookLaws) (book : Book) (code full key : List ℕ) (h : IsSound
         queues = record {
           closed = h.queues.closed;
           short = rw same (all_put_in (λ c. length (waiting book c) ≤ LONGEST_QUEUE) (λ c. is_before c code) code
-              (accounts book) h.queues.short (none_wait code book.orders unsent));
+              (codes_of book) h.queues.short (none_wait code book.orders unsent));
           of_the_day = h.queues.of_the_day;
         };
         dates = record {
@@ -280,13 +280,13 @@ module _ (laws : BookLaws) (book : Book) (code full key : List ℕ) (h : IsSound
           postings = h.dates.postings;
         };
         floors = rw same (all_put_in (λ c. floor (with_participant book new) c ≤ℤ balance (with_participant book new) c)
-            (λ c. is_before c code) code (accounts book)
+            (λ c. is_before c code) code (codes_of book)
             (all_both (λ c. bytes_eq c code ≡ false) (λ c. floor book c ≤ℤ balance book c)
             (λ c. floor (with_participant book new) c ≤ℤ balance (with_participant book new) c)
-            (λ c e x. rw (floor_same c e, balance_same c) x) (accounts book) unused h.floors)
+            (λ c e x. rw (floor_same c e, balance_same c) x) (codes_of book) unused h.floors)
             (rw (balance_same code, balance_none) floor_low));
         total_fits = rw total_same h.total_fits;
-        choice_fits = h.choice_fits;
+        automatic_fits = h.automatic_fits;
       }
 
 pub sound_add : BookLaws → (book : Book) (code full key : List ℕ) → IsSound book → IsSound (add book code full key).book

@@ -16,7 +16,7 @@ use Rattle.rtgs_book.specs.declared.book.Book.{Book}
 use Rattle.rtgs_book.specs.declared.new_order.NewOrder.{NewOrder}
 use Rattle.rtgs_book.specs.declared.order.Order.{Order}
 use Rattle.rtgs_book.specs.Books.{is_closed, is_queued, is_waiting, is_empty}
-use Rattle.rtgs_book.specs.Lookup.{accounts, participant_of, credit_of, order_named}
+use Rattle.rtgs_book.specs.Lookup.{codes_of, participant_of, credit_of, order_named}
 use Rattle.rtgs_book.specs.Balance.{balance, floor, gain}
 use Rattle.rtgs_book.specs.Queue.{waiting}
 use Rattle.rtgs_book.specs.Choice.{Choice, is_chosen, chosen, balance_after, IsFeasible}
@@ -126,10 +126,10 @@ module _ (book : Book) (sender : List ℕ) (new_order : NewOrder) (h : IsSound b
   -- the new order is settled, so no more orders wait than before
   few_settled : FewWait (with_batch (with_order book (taken_order book sender (with_due new_order None)))
       (has_number (length book.orders + 1)))
-  unfolding accounts waiting
+  unfolding codes_of waiting
   few_settled = all_weaker (λ code. length (waiting book code) ≤ LONGEST_QUEUE)
       (λ code. length (waiting (with_batch (with_order book (taken_order book sender (with_due new_order None)))
-      (has_number (length book.orders + 1))) code) ≤ LONGEST_QUEUE) one (accounts book) h.queues.short
+      (has_number (length book.orders + 1))) code) ≤ LONGEST_QUEUE) one (codes_of book) h.queues.short
     where
       one : (code : List ℕ) → length (filter (λ o. is_waiting o && bytes_eq o.sender code) book.orders) ≤ LONGEST_QUEUE
           → length (filter (λ o. is_waiting o && bytes_eq o.sender code)
@@ -151,7 +151,7 @@ module _ (book : Book) (sender : List ℕ) (new_order : NewOrder) (h : IsSound b
       → floor book sender ≤ℤ (balance book sender -ℤ pos new_order.amount)
       → IsSound (settle (with_order book (taken_order book sender (with_due new_order None)))
       (has_number (length book.orders + 1)))
-  unfolding accounts floor credit_of participant_of
+  unfolding codes_of floor credit_of participant_of
   settled_sound laws sound not_closed apart cover =
       let new : Order = taken_order book sender (with_due new_order None) in
       let queued : AreQueued (with_order book new) (has_number (length book.orders + 1)) =
@@ -170,7 +170,7 @@ module _ (book : Book) (sender : List ℕ) (new_order : NewOrder) (h : IsSound b
       (λ code. floor book code ≤ℤ (balance (with_order book new) code +ℤ (gain code new +ℤ pos 0)))
       (λ code x. rw (balance-with_order book sender (with_due new_order None) code)
       (covered_at apart cover code x))
-      (accounts book) h.floors)) few_settled)
+      (codes_of book) h.floors)) few_settled)
       (λ code. laws.settling (with_order book new) (has_number (length book.orders + 1)) code queued)
 
   takes_sound : BookLaws → length book.orders < LARGEST_NUMBER

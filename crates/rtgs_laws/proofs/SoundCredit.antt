@@ -10,7 +10,7 @@ use Rattle.rtgs_book.specs.declared.order.Order.{Order}
 use Rattle.rtgs_book.specs.declared.participant.Participant.{Participant}
 use Rattle.rtgs_book.specs.declared.posting.Posting.{Posting}
 use Rattle.rtgs_book.specs.Books.{is_closed}
-use Rattle.rtgs_book.specs.Lookup.{has_code, participant_of, credit_of, accounts, is_participant}
+use Rattle.rtgs_book.specs.Lookup.{has_code, participant_of, credit_of, codes_of, is_participant}
 use Rattle.rtgs_book.specs.Balance.{balance, floor, total}
 use Rattle.rtgs_book.specs.Queue.{waiting}
 use Rattle.rtgs_book.specs.Commands.{with_credit, set_credit}
@@ -43,8 +43,8 @@ limited-key code credit p = by (has_code code p)
     by false = refl
 
 pub accounts-with_credit : (book : Book) (code : List ℕ) (credit : ℕ)
-    → accounts (with_credit book code credit) ≡ accounts book
-unfolding accounts with_credit
+    → codes_of (with_credit book code credit) ≡ codes_of book
+unfolding codes_of with_credit
 accounts-with_credit book code credit = map_same (λ (p : Participant). p.code) (limited code credit)
     (limited-code code credit) book.participants
 
@@ -92,7 +92,7 @@ floor_covered : (book : Book) (code : List ℕ) (credit : ℕ) → is_participan
     → (not (is_closed book.day.phase) && int_lt (balance book code) (neg_ℤ (pos credit))) ≡ false → (other : List ℕ)
     → floor book other ≤ℤ balance book other → floor (with_credit book code credit) other ≤ℤ balance
     (with_credit book code credit) other
-unfolding floor credit_of participant_of with_credit balance is_participant accounts
+unfolding floor credit_of participant_of with_credit balance is_participant codes_of
 floor_covered book code credit known enough other holds = by (is_closed book.day.phase) enough holds
     (bytes_eq other code) refl
   where
@@ -152,9 +152,9 @@ credit_sound book code credit h known enough =
       };
       floors = rw same (all_weaker (λ other. floor book other ≤ℤ balance book other)
           (λ other. floor (with_credit book code credit) other ≤ℤ balance (with_credit book code credit) other)
-          (floor_covered book code credit known enough) (accounts book) h.floors);
+          (floor_covered book code credit known enough) (codes_of book) h.floors);
       total_fits = rw same h.total_fits;
-      choice_fits = h.choice_fits;
+      automatic_fits = h.automatic_fits;
     }
 
 pub sound_set_credit : (book : Book) (code : List ℕ) (credit : ℕ) → IsSound book

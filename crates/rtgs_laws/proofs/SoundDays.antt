@@ -6,20 +6,20 @@ use Rattle.rtgs_book.specs.declared.day.Day.{Day}
 use Rattle.rtgs_book.specs.declared.phase.Phase.{Phase}
 use Rattle.rtgs_book.specs.declared.phase.Phase.TheVariants.{Closed, Open, CutOff}
 use Rattle.rtgs_book.specs.Books.{is_closed, is_open}
-use Rattle.rtgs_book.specs.Lookup.{participant_of, credit_of, accounts, is_participant}
+use Rattle.rtgs_book.specs.Lookup.{participant_of, credit_of, codes_of, is_participant}
 use Rattle.rtgs_book.specs.Balance.{balance, floor, total}
 use Rattle.rtgs_book.specs.Queue.{waiting}
 use Rattle.rtgs_book.specs.Commands.{with_day, cut_off}
-use Rattle.rtgs_book.specs.Soundness.{QueuesFit, DatesFit, FloorsHold, ChoiceFits, IsSound}
+use Rattle.rtgs_book.specs.Soundness.{QueuesFit, DatesFit, FloorsHold, AutomaticFits, IsSound}
 use Rattle.rtgs_laws.proofs.Outcomes.{sound_first_of}
 use Rattle.rtgs_lists.proofs.Lists.{all_weaker}
 use Rattle.rtgs_lists.proofs.Bools.{from_not}
 
 -- what the day does not touch stays
 pub sound_with_day : (book : Book) (day : Day) → IsSound book → QueuesFit (with_day book day)
-    → DatesFit (with_day book day) → FloorsHold (with_day book day) → ChoiceFits (with_day book day)
+    → DatesFit (with_day book day) → FloorsHold (with_day book day) → AutomaticFits (with_day book day)
     → IsSound (with_day book day)
-unfolding accounts is_participant balance total
+unfolding codes_of is_participant balance total
 sound_with_day book day h queues dates floors choice = record {
   orders_numbered = h.orders_numbered;
   postings_numbered = h.postings_numbered;
@@ -38,7 +38,7 @@ sound_with_day book day h queues dates floors choice = record {
   dates = dates;
   floors = floors;
   total_fits = h.total_fits;
-  choice_fits = choice;
+  automatic_fits = choice;
 }
 
 pub open_not_closed : (p : Phase) → is_open p ≡ true → is_closed p ≡ false
@@ -48,7 +48,7 @@ open_not_closed CutOff e = refl
 
 cut_off_sound : (book : Book) → IsSound book → is_closed book.day.phase ≡ false
     → IsSound (with_day book (record book.day { phase = CutOff }))
-unfolding waiting floor credit_of participant_of accounts balance
+unfolding waiting floor credit_of participant_of codes_of balance
 cut_off_sound book h e = sound_with_day book (record book.day { phase = CutOff }) h
     (record { closed = λ c. absurd (true≢false (sym c)); short = h.queues.short; of_the_day = h.queues.of_the_day })
     (record {
@@ -61,7 +61,7 @@ cut_off_sound book h e = sound_with_day book (record book.day { phase = CutOff }
       marks = h.dates.marks;
       postings = h.dates.postings;
     })
-    (all_weaker _ _ (λ code x. rw e at x) (accounts book) h.floors) (λ c. absurd (true≢false (sym c)))
+    (all_weaker _ _ (λ code x. rw e at x) (codes_of book) h.floors) (λ c. absurd (true≢false (sym c)))
 
 pub sound_cut_off : (book : Book) (date : ℕ) → IsSound book → IsSound (cut_off book date).book
 unfolding cut_off

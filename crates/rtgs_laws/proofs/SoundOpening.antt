@@ -18,7 +18,7 @@ use Rattle.rtgs_book.specs.declared.order_state.OrderState.{OrderState}
 use Rattle.rtgs_book.specs.declared.order_state.OrderState.TheVariants.{Queued, Held, Settled, Withdrawn, Rejected}
 use Rattle.rtgs_book.specs.declared.phase.Phase.TheVariants.{Open}
 use Rattle.rtgs_book.specs.Books.{is_closed, is_queued, is_held_state, is_waiting, is_settled, has_due}
-use Rattle.rtgs_book.specs.Lookup.{participant_of, credit_of, accounts, is_participant}
+use Rattle.rtgs_book.specs.Lookup.{participant_of, credit_of, codes_of, is_participant}
 use Rattle.rtgs_book.specs.IntSum.{int_sum_by}
 use Rattle.rtgs_book.specs.Balance.{balance, floor, total}
 use Rattle.rtgs_book.specs.Queue.{waiting}
@@ -171,7 +171,7 @@ module _ (laws : BookLaws) (book : Book) (date : ℕ) (automatic : Bool) (h : Is
       ∙ length-map (filter (λ o. is_waiting o && bytes_eq o.sender code) book.orders) lets_in
 
   open_day_sound : is_closed book.day.phase ≡ true → today book ≤ date → is_weekend date ≡ false → IsSound opened
-  unfolding let_in accounts is_participant total floor credit_of participant_of
+  unfolding let_in codes_of is_participant total floor credit_of participant_of
   open_day_sound closed le weekday = record {
     orders_numbered = rw (map_same (λ (o : Order). o.number) lets_in
         (changed_same (λ (o : Order). o.number) (entered date) (λ o. refl) (is_due date)) book.orders)
@@ -203,7 +203,7 @@ module _ (laws : BookLaws) (book : Book) (date : ℕ) (automatic : Bool) (h : Is
     queues = record {
       closed = λ e. absurd (true≢false (sym e));
       short = all_weaker (λ code. length (waiting book code) ≤ LONGEST_QUEUE)
-          (λ code. length (waiting opened code) ≤ LONGEST_QUEUE) (λ code x. rw (as_many_wait code) x) (accounts book)
+          (λ code. length (waiting opened code) ≤ LONGEST_QUEUE) (λ code x. rw (as_many_wait code) x) (codes_of book)
           h.queues.short;
       of_the_day = entered_of_day date book.orders (h.queues.closed closed);
     };
@@ -219,10 +219,10 @@ module _ (laws : BookLaws) (book : Book) (date : ℕ) (automatic : Bool) (h : Is
     };
     floors = all_weaker (λ code. floor book code ≤ℤ balance book code)
         (λ code. floor opened code ≤ℤ balance opened code)
-        (λ code x. let y = rw closed at x in rw (balance_opened code) (omega (arith, ints))) (accounts book) h.floors;
-    total_fits = subst (λ (f : List ℕ → ℤ). int_sum_by f (accounts book) ≤ℤ pos LARGEST_TOTAL)
+        (λ code x. let y = rw closed at x in rw (balance_opened code) (omega (arith, ints))) (codes_of book) h.floors;
+    total_fits = subst (λ (f : List ℕ → ℤ). int_sum_by f (codes_of book) ≤ℤ pos LARGEST_TOTAL)
         (λ i code. sym (balance_opened code) i) h.total_fits;
-    choice_fits = λ e. absurd (true≢false (sym e));
+    automatic_fits = λ e. absurd (true≢false (sym e));
   }
 
 pub sound_open_day : BookLaws → (book : Book) (new_day : NewDay) → IsSound book

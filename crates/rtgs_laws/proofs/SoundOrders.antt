@@ -16,7 +16,7 @@ use Rattle.rtgs_book.specs.declared.new_order.NewOrder.{NewOrder}
 use Rattle.rtgs_book.specs.declared.order.Order.{Order}
 use Rattle.rtgs_book.specs.Books.{is_closed, is_queued, is_queued_state, is_waiting, is_waiting_state, is_settled}
 use Rattle.rtgs_book.specs.Books.{is_settled_state, has_due}
-use Rattle.rtgs_book.specs.Lookup.{accounts, is_participant, participant_of, credit_of, order_named}
+use Rattle.rtgs_book.specs.Lookup.{codes_of, is_participant, participant_of, credit_of, order_named}
 use Rattle.rtgs_book.specs.IntSum.{int_sum_by}
 use Rattle.rtgs_book.specs.Balance.{balance, floor, total}
 use Rattle.rtgs_book.specs.Queue.{waiting}
@@ -135,10 +135,10 @@ module _ (book : Book) (sender : List ℕ) (new_order : NewOrder) where
 
   pub few_with_order : length (waiting book sender) < LONGEST_QUEUE → FewWait book
       → FewWait (with_order book (taken_order book sender new_order))
-  unfolding accounts
+  unfolding codes_of
   few_with_order room h = all_weaker (λ code. length (waiting book code) ≤ LONGEST_QUEUE)
       (λ code. length (waiting (with_order book (taken_order book sender new_order)) code)
-      ≤ LONGEST_QUEUE) (short_still room) (accounts book) h
+      ≤ LONGEST_QUEUE) (short_still room) (codes_of book) h
 
   pub sound_with_order : IsSound book → length book.orders < LARGEST_NUMBER
       → is_some (order_named book sender new_order.reference) ≡ false → has_parties book
@@ -146,7 +146,7 @@ module _ (book : Book) (sender : List ℕ) (new_order : NewOrder) where
       → is_closed book.day.phase ≡ false → is_due_too_early book new_order.due ≡ false
       → is_due_on_a_weekend new_order.due ≡ false
       → IsSoundButLength (with_order book (taken_order book sender new_order))
-  unfolding accounts is_participant floor credit_of participant_of total order_named
+  unfolding codes_of is_participant floor credit_of participant_of total order_named
   sound_with_order h room fresh parties not_closed early weekend =
       let new : Order = taken_order book sender new_order in
       record {
@@ -196,8 +196,8 @@ module _ (book : Book) (sender : List ℕ) (new_order : NewOrder) where
         };
         floors = all_weaker (λ code. floor book code ≤ℤ balance book code)
             (λ code. floor book code ≤ℤ balance (with_order book new) code) (λ code x. rw (balance-with_order code) x)
-            (accounts book) h.floors;
-        total_fits = subst (λ (f : List ℕ → ℤ). int_sum_by f (accounts book) ≤ℤ pos LARGEST_TOTAL)
+            (codes_of book) h.floors;
+        total_fits = subst (λ (f : List ℕ → ℤ). int_sum_by f (codes_of book) ≤ℤ pos LARGEST_TOTAL)
             (λ i code. sym (balance-with_order code) i) h.total_fits;
-        choice_fits = h.choice_fits;
+        automatic_fits = h.automatic_fits;
       }

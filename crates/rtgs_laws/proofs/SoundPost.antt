@@ -10,7 +10,7 @@ use Rattle.rtgs_book.specs.declared.limits.TheConstants.{LARGEST_NUMBER, LARGEST
 use Rattle.rtgs_book.specs.declared.book.Book.{Book}
 use Rattle.rtgs_book.specs.declared.mark.Mark.{Mark}
 use Rattle.rtgs_book.specs.declared.posting.Posting.{Posting}
-use Rattle.rtgs_book.specs.Lookup.{accounts, is_participant, participant_of, credit_of, posting_named}
+use Rattle.rtgs_book.specs.Lookup.{codes_of, is_participant, participant_of, credit_of, posting_named}
 use Rattle.rtgs_book.specs.IntSum.{int_sum_by}
 use Rattle.rtgs_book.specs.Balance.{balance, floor, total}
 use Rattle.rtgs_book.specs.Queue.{waiting}
@@ -29,9 +29,9 @@ with_posting book posting = record book { postings = book.postings ++ posting �
 total-with_posting : BookLaws → (book : Book) (posting : Posting) → IsSound book
     → is_participant book posting.code ≡ true
     → total (with_posting book posting) ≡ total book +ℤ posting.cents
-unfolding total accounts is_participant
+unfolding total codes_of is_participant
 total-with_posting laws book posting h known =
-    let codes = accounts book in
+    let codes = codes_of book in
     ap (λ (f : List ℕ → ℤ). int_sum_by f codes) (λ i code. laws.posting book posting code i)
     ∙ int_sum_by-both (balance book) (at_code posting.code posting.cents) codes
     ∙ ap (λ v. total book +ℤ v) (sum_at_code posting.code posting.cents codes h.codes_rise.0 known)
@@ -81,7 +81,7 @@ post_sound : BookLaws → (book : Book) (code reference : List ℕ) (cents : ℤ
       cents = cents;
       date = book.day.date;
     }))
-unfolding accounts is_participant waiting floor credit_of participant_of posting_named
+unfolding codes_of is_participant waiting floor credit_of participant_of posting_named
 post_sound laws book code reference cents h known new room fits enough =
     let posting : Posting = record {
       number = length book.postings + 1;
@@ -122,9 +122,9 @@ post_sound laws book code reference cents h known new room fits enough =
       floors = all_weaker (λ other. floor book other ≤ℤ balance book other)
           (λ other. floor (with_posting book posting) other ≤ℤ balance (with_posting book posting) other)
           (λ other x. rw (laws.posting book posting other) (covered_all book code cents enough other x))
-          (accounts book) h.floors;
+          (codes_of book) h.floors;
       total_fits = rw (total-with_posting laws book posting h known) (total_fits (total book) cents h.total_fits fits);
-      choice_fits = h.choice_fits;
+      automatic_fits = h.automatic_fits;
     }
 
 pub sound_post : BookLaws → (book : Book) (code reference : List ℕ) (cents : ℤ) → IsSound book

@@ -14,7 +14,7 @@ use Rattle.rtgs_book.specs.declared.order.Order.{Order}
 use Rattle.rtgs_book.specs.declared.order_state.OrderState.{OrderState}
 use Rattle.rtgs_book.specs.declared.order_state.OrderState.TheVariants.{Settled}
 use Rattle.rtgs_book.specs.Books.{is_closed, is_queued, is_waiting, has_due}
-use Rattle.rtgs_book.specs.Lookup.{accounts, is_participant, participant_of, credit_of}
+use Rattle.rtgs_book.specs.Lookup.{codes_of, is_participant, participant_of, credit_of}
 use Rattle.rtgs_book.specs.IntSum.{int_sum_by}
 use Rattle.rtgs_book.specs.Balance.{balance, floor, total, issued, gain}
 use Rattle.rtgs_book.specs.Queue.{waiting}
@@ -43,7 +43,7 @@ not_equal a b less = grind (arith, nat_tests)
 -- the orders of a batch are between participants still
 parties_settled : (book : Book) (is_in : Order → Bool) → PartiesAreKnown book
     → PartiesAreKnown (with_batch book is_in)
-unfolding is_participant accounts
+unfolding is_participant codes_of
 parties_settled book is_in h = (
   all_changed (λ o. has_parties book o ≡ true) is_in (in_state (Settled (next_mark book))) book.orders
       (all_of (λ o. is_in o ≡ true → has_parties book o ≡ true
@@ -53,7 +53,7 @@ parties_settled book is_in h = (
 
 pub total-with_batch : TotalIsIssued → (book : Book) (is_in : Order → Bool) → CodesRise book → PartiesAreKnown book
     → total (with_batch book is_in) ≡ total book
-unfolding accounts issued
+unfolding codes_of issued
 total-with_batch issue book is_in rise parties =
     issue (with_batch book is_in) rise (parties_settled book is_in parties) ∙ sym (issue book rise parties)
 
@@ -100,8 +100,8 @@ module _ (laws : BookLaws) (book : Book) (is_in : Order → Bool) (queued : AreQ
   pub batch_sound : 1 ≤ length (filter is_in book.orders) → ((code : List ℕ) → balance (with_batch book is_in) code
       ≡ balance book code +ℤ int_sum_by (gain code) (filter is_in book.orders)) → AllByRecursion
       (λ code. floor book code ≤ℤ (balance book code +ℤ int_sum_by (gain code) (filter is_in book.orders)))
-      (accounts book) → FewWait (with_batch book is_in) → IsSound (with_batch book is_in)
-  unfolding mark_of accounts is_participant floor credit_of participant_of
+      (codes_of book) → FewWait (with_batch book is_in) → IsSound (with_batch book is_in)
+  unfolding mark_of codes_of is_participant floor credit_of participant_of
   batch_sound some balances covered short =
       let s : OrderState = Settled (next_mark book) in
       let mark = mark_of book (filter is_in book.orders) in
@@ -151,22 +151,22 @@ module _ (laws : BookLaws) (book : Book) (is_in : Order → Bool) (queued : AreQ
         };
         floors = all_weaker (λ code. floor book code ≤ℤ (balance book code +ℤ int_sum_by (gain code)
             (filter is_in book.orders))) (λ code. floor book code ≤ℤ balance (with_batch book is_in) code)
-            (λ code x. rw (balances code) x) (accounts book) covered;
+            (λ code x. rw (balances code) x) (codes_of book) covered;
         total_fits = rw (total-with_batch laws.issue book is_in h.codes_rise h.parties) h.total_fits;
-        choice_fits = h.choice_fits;
+        automatic_fits = h.automatic_fits;
       }
 
 -- fewer orders wait once a batch is settled
 few_still : (book : Book) (is_in : Order → Bool) → FewWait book → FewWait (with_batch book is_in)
-unfolding accounts waiting
+unfolding codes_of waiting
 few_still book is_in h = all_weaker (λ code. length (waiting book code) ≤ LONGEST_QUEUE)
     (λ code. length (waiting (with_batch book is_in) code) ≤ LONGEST_QUEUE)
     (λ code x. let le = length-filter_changed (λ o. is_waiting o && bytes_eq o.sender code) is_in
-    (in_state (Settled (next_mark book))) (λ o. refl) book.orders in omega arith) (accounts book) h
+    (in_state (Settled (next_mark book))) (λ o. refl) book.orders in omega arith) (codes_of book) h
 
 pub sound_settle : BookLaws → (book : Book) (is_in : Order → Bool) → AreQueued book is_in → IsSound book
     → is_closed book.day.phase ≡ false → AllByRecursion (λ code. floor book code ≤ℤ
-    (balance book code +ℤ int_sum_by (gain code) (filter is_in book.orders))) (accounts book)
+    (balance book code +ℤ int_sum_by (gain code) (filter is_in book.orders))) (codes_of book)
     → IsSound (settle book is_in)
 sound_settle laws book is_in queued h not_closed covered =
     settled_either (λ new. ((code : List ℕ) → balance new code

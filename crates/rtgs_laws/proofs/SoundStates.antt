@@ -13,7 +13,7 @@ use Rattle.rtgs_book.specs.declared.phase.Phase.TheVariants.{Closed}
 use Rattle.rtgs_book.specs.Books.{is_queued, is_queued_state, is_waiting, is_waiting_state, is_settled}
 use Rattle.rtgs_book.specs.Books.{is_settled_state}
 use Rattle.rtgs_book.specs.Books.{has_due, is_empty}
-use Rattle.rtgs_book.specs.Lookup.{accounts, is_participant, participant_of, credit_of, is_order_named, order_named}
+use Rattle.rtgs_book.specs.Lookup.{codes_of, is_participant, participant_of, credit_of, is_order_named, order_named}
 use Rattle.rtgs_book.specs.IntSum.{int_sum_by}
 use Rattle.rtgs_book.specs.Balance.{balance, floor, total}
 use Rattle.rtgs_book.specs.Queue.{waiting}
@@ -66,7 +66,7 @@ module _ (laws : BookLaws) (book : Book) (is_in : Order → Bool) (s : OrderStat
   pub sound_with_state : IsSound book → AllByRecursion (λ (o : Order). is_in o ≡ true
       → FitsDue (today book) o.due o.date o.state → FitsDue (today book) o.due o.date s) book.orders
       → IsSound (with_state book is_in s)
-  unfolding with_state accounts is_participant waiting total floor credit_of participant_of
+  unfolding with_state codes_of is_participant waiting total floor credit_of participant_of
   sound_with_state h dues = record {
     orders_numbered = rw (kept (λ (o : Order). o.number) (λ o. refl)) h.orders_numbered;
     postings_numbered = h.postings_numbered;
@@ -100,7 +100,7 @@ module _ (laws : BookLaws) (book : Book) (is_in : Order → Bool) (s : OrderStat
       short = all_weaker (λ code. length (waiting book code) ≤ LONGEST_QUEUE)
           (λ code. length (waiting (with_state book is_in s) code) ≤ LONGEST_QUEUE)
           (λ code x. let le = length-filter_changed (λ o. is_waiting o && bytes_eq o.sender code) is_in (in_state s)
-          (λ o. and_left_false _ _ not_waiting) book.orders in omega arith) (accounts book) h.queues.short;
+          (λ o. and_left_false _ _ not_waiting) book.orders in omega arith) (codes_of book) h.queues.short;
       of_the_day = all_filter_changed is_queued is_in (in_state s) (λ o. not_queued) (λ o. o.date ≡ today book)
           book.orders h.queues.of_the_day;
     };
@@ -117,10 +117,10 @@ module _ (laws : BookLaws) (book : Book) (is_in : Order → Bool) (s : OrderStat
     };
     floors = all_weaker (λ code. floor book code ≤ℤ balance book code)
         (λ code. floor book code ≤ℤ balance (with_state book is_in s) code) (λ code x. rw (balance-with_state code) x)
-        (accounts book) h.floors;
-    total_fits = subst (λ (f : List ℕ → ℤ). int_sum_by f (accounts book) ≤ℤ pos LARGEST_TOTAL)
+        (codes_of book) h.floors;
+    total_fits = subst (λ (f : List ℕ → ℤ). int_sum_by f (codes_of book) ≤ℤ pos LARGEST_TOTAL)
         (λ i code. sym (balance-with_state code) i) h.total_fits;
-    choice_fits = h.choice_fits;
+    automatic_fits = h.automatic_fits;
   }
 
 pub sound_withdraw : BookLaws → (book : Book) (sender reference : List ℕ) → IsSound book
@@ -174,9 +174,9 @@ not_negative : (a : ℤ) → int_lt a (pos 0) ≡ false → pos 0 ≤ℤ a
 not_negative a e = grind (arith, ints)
 
 close_sound : BookLaws → (book : Book) → IsSound book
-    → AllByRecursion (λ code. int_lt (balance book code) (pos 0) ≡ false) (accounts book) → IsSound (with_day
+    → AllByRecursion (λ code. int_lt (balance book code) (pos 0) ≡ false) (codes_of book) → IsSound (with_day
     (with_state book is_queued Rejected) (record book.day { phase = Closed; automatic = false }))
-unfolding with_state accounts waiting floor balance
+unfolding with_state codes_of waiting floor balance
 close_sound laws book h positive =
     let rejected = with_state book is_queued Rejected in
     let sound = sound_with_state laws book is_queued Rejected refl refl refl (λ _ _. tt) (queued_unsettled book) h
@@ -203,7 +203,7 @@ close_sound laws book h positive =
     (λ code. floor (with_day rejected (record book.day { phase = Closed; automatic = false })) code ≤ℤ balance
     (with_day rejected (record book.day { phase = Closed; automatic = false })) code)
     (λ code e. rw (balance-with_state laws book is_queued Rejected refl refl refl (λ _ _. tt)
-    (queued_unsettled book) code) (not_negative _ e)) (accounts book) positive) (λ _. refl)
+    (queued_unsettled book) code) (not_negative _ e)) (codes_of book) positive) (λ _. refl)
 
 pub sound_close_day : BookLaws → (book : Book) (choice : Choice) (date : ℕ) → IsSound book
     → IsSound (close_day book choice date).book

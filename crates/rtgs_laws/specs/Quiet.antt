@@ -8,7 +8,7 @@ use Rattle.rtgs_book.specs.declared.book.Book.{Book}
 use Rattle.rtgs_book.specs.declared.order.Order.{Order}
 use Rattle.rtgs_book.specs.Books.{is_empty, is_queued}
 use Rattle.rtgs_book.specs.IntSum.{int_sum_by}
-use Rattle.rtgs_book.specs.Lookup.{accounts, is_participant}
+use Rattle.rtgs_book.specs.Lookup.{codes_of, is_participant}
 use Rattle.rtgs_book.specs.Queue.{queue}
 
 abbrev pub value_of : List Order → ℤ
@@ -45,6 +45,6 @@ GainsNothing old new code = ((balance new code +ℤ floor old code) ≤ℤ (bala
 -- No queue begins otherwise than before, and nobody who has one gains what it could pay with. Who has none may gain.
 pub record FreesNothing (old new : Book) : Type 0 where
   pub day_stays : new.day ≡ old.day
-  pub accounts_stay : accounts new ≡ accounts old
+  pub accounts_stay : codes_of new ≡ codes_of old
   pub queues : (code : List ℕ) → KeepsQueue old new code
-  pub gains : AllByRecursion (λ code. is_empty (queue new code) ≡ false → GainsNothing old new code) (accounts new)
+  pub gains : AllByRecursion (λ code. is_empty (queue new code) ≡ false → GainsNothing old new code) (codes_of new)

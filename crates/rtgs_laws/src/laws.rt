@@ -7,7 +7,7 @@ ghost use Rattle.rtgs_book.specs.declared.command.Command.{Command};
 ghost use Rattle.rtgs_book.specs.declared.order.Order.{Order};
 ghost use Rattle.rtgs_book.specs.Books.{is_queued};
 ghost use Rattle.rtgs_book.specs.Commands.{with_credit};
-ghost use Rattle.rtgs_book.specs.Lookup.{accounts};
+ghost use Rattle.rtgs_book.specs.Lookup.{codes_of};
 ghost use Rattle.rtgs_laws.specs.Quiet.{FreesNothing};
 ghost use Rattle.rtgs_book.specs.Laws.{posted, KeepsWhatIsFinal, CommandFits};
 ghost use Rattle.rtgs_book.specs.Outcome.{OwnReply, Reply, is_done};
@@ -61,7 +61,7 @@ pub fn what_did_not_act_leaves_the_book()
 
 /// A new credit limit leaves the same accounts.
 pub fn new_credit_leaves_the_accounts()
-    ensures { (book : Book) (code : List ℕ) (credit : ℕ) → accounts (with_credit book code credit) ≡ accounts book }
+    ensures { (book : Book) (code : List ℕ) (credit : ℕ) → codes_of (with_credit book code credit) ≡ codes_of book }
 {}
 
 /// A command has one reply at most, and leaves one book.

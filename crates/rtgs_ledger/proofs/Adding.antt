@@ -18,7 +18,7 @@ use Rattle.rtgs_book.specs.declared.change.RowChange.TheVariants.{AddParticipant
 use Rattle.rtgs_book.specs.declared.limits.TheConstants.{MOST_PARTICIPANTS}
 use Rattle.rtgs_book.specs.Balance.{balance}
 use Rattle.rtgs_book.specs.Changes.{Leads, balance_set}
-use Rattle.rtgs_book.specs.Lookup.{accounts}
+use Rattle.rtgs_book.specs.Lookup.{codes_of}
 use Rattle.rtgs_records.specs.accounts.Accounts.{code_of, is_of, has_key, with_account}
 use Rattle.rtgs_ledger.proofs.Balances.{all_same, balance_unknown}
 use Rattle.rtgs_ledger.proofs.Kept.{participant_none, is_unknown, any-participants, length-participants, prepared_done}
@@ -74,7 +74,7 @@ module _ (r : Whole) (kept : IsKept (held_of r)) (code name key : List ℕ)
         ≡ (if int_eq (balance (book_of r) c) (balance (with_participant (book_of r) p) c) then None else Some
         (balance (with_participant (book_of r) p) c))) (λ c. rw (balance_same c, int_eq_self (balance (book_of r) c))
         refl)
-        (accounts (with_participant (book_of r) p));
+        (codes_of (with_participant (book_of r) p));
   }
 
   no_balance : balance (book_of r) code ≡ pos 0

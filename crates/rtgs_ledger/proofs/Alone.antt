@@ -8,18 +8,18 @@ use Rattle.rtgs_book.specs.declared.limits.TheConstants.{LONGEST_QUEUE}
 use Rattle.rtgs_book.specs.declared.participant.Participant.{Participant}
 use Rattle.rtgs_book.specs.Balance.{balance, floor, total}
 use Rattle.rtgs_book.specs.IntSum.{int_sum_by}
-use Rattle.rtgs_book.specs.Lookup.{accounts}
+use Rattle.rtgs_book.specs.Lookup.{codes_of}
 use Rattle.rtgs_book.specs.Queue.{waiting}
 use Rattle.rtgs_book.specs.Soundness.{IsSound}
-use Rattle.rtgs_records.specs.accounts.Accounts.{AreOfABook, participant_of, code_of, key_of}
+use Rattle.rtgs_records.specs.accounts.Accounts.{AreOfABook, participant_in, code_of, key_of}
 use Rattle.rtgs_ledger.specs.Alone.{book_of_participants}
 use Rattle.rtgs_lists.proofs.Lists.{all_of}
 
-codes_are : (xs : List Account) → map (λ (p : Participant). p.code) (map participant_of xs) ≡ map code_of xs
+codes_are : (xs : List Account) → map (λ (p : Participant). p.code) (map participant_in xs) ≡ map code_of xs
 codes_are [] = refl
 codes_are (x ∷ xs) = ap (λ cs. code_of x ∷ cs) (codes_are xs)
 
-keys_are : (xs : List Account) → map (λ (p : Participant). p.key) (map participant_of xs) ≡ map key_of xs
+keys_are : (xs : List Account) → map (λ (p : Participant). p.key) (map participant_in xs) ≡ map key_of xs
 keys_are [] = refl
 keys_are (x ∷ xs) = ap (λ ks. key_of x ∷ ks) (keys_are xs)
 
@@ -28,8 +28,8 @@ unfolding balance
 nothing ps [] = refl
 nothing ps (c ∷ codes) = let rest = nothing ps codes in omega (arith, ints, rest)
 
-pub sound_alone : (xs : List Account) → AreOfABook xs → IsSound (book_of_participants (map participant_of xs))
-unfolding accounts balance floor total waiting IsDistinct
+pub sound_alone : (xs : List Account) → AreOfABook xs → IsSound (book_of_participants (map participant_in xs))
+unfolding codes_of balance floor total waiting IsDistinct
 sound_alone xs of = record {
   orders_numbered = (refl, omega arith);
   postings_numbered = (refl, omega arith);
@@ -42,10 +42,10 @@ sound_alone xs of = record {
   marks = (tt, tt);
   queues = record {
     closed = λ _. refl;
-    short = all_of (λ code. length (waiting (book_of_participants (map participant_of xs)) code) ≤ LONGEST_QUEUE) (λ
+    short = all_of (λ code. length (waiting (book_of_participants (map participant_in xs)) code) ≤ LONGEST_QUEUE) (λ
         code.
         omega arith)
-        (accounts (book_of_participants (map participant_of xs)));
+        (codes_of (book_of_participants (map participant_in xs)));
     of_the_day = tt;
   };
   dates = record {
@@ -58,11 +58,11 @@ sound_alone xs of = record {
     marks = tt;
     postings = tt;
   };
-  floors = all_of (λ code. floor (book_of_participants (map participant_of xs)) code ≤ℤ balance (book_of_participants
-      (map participant_of xs))
+  floors = all_of (λ code. floor (book_of_participants (map participant_in xs)) code ≤ℤ balance (book_of_participants
+      (map participant_in xs))
       code)
-      (λ code. omega (arith, ints)) (accounts (book_of_participants (map participant_of xs)));
-  total_fits = let none = nothing (map participant_of xs) (accounts (book_of_participants (map participant_of xs)))
+      (λ code. omega (arith, ints)) (codes_of (book_of_participants (map participant_in xs)));
+  total_fits = let none = nothing (map participant_in xs) (codes_of (book_of_participants (map participant_in xs)))
       in omega (arith, ints, none);
-  choice_fits = λ _. refl;
+  automatic_fits = λ _. refl;
 }

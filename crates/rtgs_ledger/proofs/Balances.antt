@@ -13,7 +13,7 @@ use Rattle.rtgs_book.specs.declared.order.Order.{Order}
 use Rattle.rtgs_book.specs.declared.mark.Mark.{Mark}
 use Rattle.rtgs_book.specs.Books.{is_settled}
 use Rattle.rtgs_book.specs.Balance.{balance, gain}
-use Rattle.rtgs_book.specs.Lookup.{accounts, is_participant}
+use Rattle.rtgs_book.specs.Lookup.{codes_of, is_participant}
 use Rattle.rtgs_book.specs.IntSum.{int_sum_by}
 use Rattle.rtgs_book.specs.Soundness.{has_parties, PartiesAreKnown}
 use Rattle.rtgs_book.specs.declared.account.Account.{Account}
@@ -123,15 +123,15 @@ pub balance_unknown : (book : Book) (code : List ℕ) → PartiesAreKnown book �
     → balance book code ≡ pos 0
 unfolding balance is_participant
 balance_unknown book code parties none =
-    let postings = no_postings code book.postings (all_weaker (λ (p : Posting). list_any (bytes_eq p.code) (accounts
+    let postings = no_postings code book.postings (all_weaker (λ (p : Posting). list_any (bytes_eq p.code) (codes_of
     book)
-    ≡ true) (λ (p : Posting). bytes_eq p.code code ≡ false) (λ p e. apart_from p.code code (accounts book) none e)
+    ≡ true) (λ (p : Posting). bytes_eq p.code code ≡ false) (λ p e. apart_from p.code code (codes_of book) none e)
     book.postings parties.1) in
     let orders = no_gains code book.orders (all_weaker (λ o. has_parties book o ≡ true)
     (λ (o : Order). (bytes_eq o.sender code ≡ false) × (bytes_eq o.receiver code ≡ false))
     (λ o e. (
-      apart_from o.sender code (accounts book) none (first_of_three _ _ _ e),
+      apart_from o.sender code (codes_of book) none (first_of_three _ _ _ e),
       apart_from o.receiver code
-          (accounts book) none (second_true _ _ _ e),
+          (codes_of book) none (second_true _ _ _ e),
     )) book.orders parties.0) in
     rw (postings, orders) refl

@@ -21,7 +21,7 @@ use Rattle.rtgs_book.specs.Books.{is_closed, is_cut_off, is_empty, is_queued, is
 use Rattle.rtgs_book.specs.Changes.{Leads, StartsEmpty}
 use Rattle.rtgs_book.specs.Choice.{Choice, chosen, IsGreatest}
 use Rattle.rtgs_book.specs.Commands.{close_day, overdrawn, is_date, is_on}
-use Rattle.rtgs_book.specs.Lookup.{accounts}
+use Rattle.rtgs_book.specs.Lookup.{codes_of}
 use Rattle.rtgs_book.specs.Outcome.{first_of}
 use Rattle.rtgs_book.specs.Queue.{queue, queued_numbers}
 use Rattle.rtgs_book.specs.Step.{OwnStep}
@@ -29,7 +29,7 @@ use Rattle.rtgs_choices.specs.Closing.{closed_book, closing_rows}
 use Rattle.rtgs_choices.specs.Settling.{state_rows}
 use Rattle.rtgs_book.specs.declared.account.Account.{Account}
 use Rattle.rtgs_book.specs.Accounts.{is_overdrawn}
-use Rattle.rtgs_records.specs.accounts.Accounts.{code_of, participant_of}
+use Rattle.rtgs_records.specs.accounts.Accounts.{code_of, participant_in}
 use Rattle.rtgs_ledger.proofs.Balances.{all_same}
 use Rattle.rtgs_ledger.proofs.Ordering.{is_shut, is_opened, is_day}
 use Rattle.rtgs_ledger.proofs.Rooms.{after-append, accounts_after-states}
@@ -118,29 +118,29 @@ none_of_filter {X} p (y ∷ ys) e = by (p y) e (none_of_filter p ys)
     by false f more = more f
 
 codes_below : (book : Book) (xs : List Account) → AreBalanced book xs
-    → filter (λ code. int_lt (balance book code) (pos 0)) (map (λ (p : Participant). p.code) (map participant_of xs))
+    → filter (λ code. int_lt (balance book code) (pos 0)) (map (λ (p : Participant). p.code) (map participant_in xs))
     ≡ map code_of (filter is_overdrawn xs)
 codes_below book [] h = refl
 codes_below book (x ∷ xs) h =
     ap (λ z. cond (int_lt z (pos 0)) (code_of x ∷ filter (λ code. int_lt (balance book code) (pos 0))
-    (map (λ (p : Participant). p.code) (map participant_of xs)))
+    (map (λ (p : Participant). p.code) (map participant_in xs)))
     (filter (λ code. int_lt (balance book code) (pos 0))
-    (map (λ (p : Participant). p.code) (map participant_of xs)))) (sym h.0)
+    (map (λ (p : Participant). p.code) (map participant_in xs)))) (sym h.0)
     ∙ by (is_overdrawn x) (codes_below book xs h.1)
   where
     by : (b : Bool) → filter (λ code. int_lt (balance book code) (pos 0))
-        (map (λ (p : Participant). p.code) (map participant_of xs)) ≡ map code_of (filter is_overdrawn xs)
+        (map (λ (p : Participant). p.code) (map participant_in xs)) ≡ map code_of (filter is_overdrawn xs)
         → cond b (code_of x ∷ filter (λ code. int_lt (balance book code) (pos 0))
-        (map (λ (p : Participant). p.code) (map participant_of xs)))
+        (map (λ (p : Participant). p.code) (map participant_in xs)))
         (filter (λ code. int_lt (balance book code) (pos 0))
-        (map (λ (p : Participant). p.code) (map participant_of xs)))
+        (map (λ (p : Participant). p.code) (map participant_in xs)))
         ≡ map code_of (cond b (x ∷ filter is_overdrawn xs) (filter is_overdrawn xs))
     by true e = ap (λ cs. code_of x ∷ cs) e
     by false e = e
 
 module _ (r : Whole) (kept : IsKept (held_of r)) where
   below_zero : overdrawn (book_of r) ≡ map code_of (filter is_overdrawn r.accounts.accounts)
-  unfolding overdrawn accounts
+  unfolding overdrawn codes_of
   below_zero = codes_below (book_of r) r.accounts.accounts kept.balanced
 
   pub nobody_below : find is_overdrawn r.accounts.accounts ≡ None → overdrawn (book_of r) ≡ []
@@ -162,14 +162,14 @@ module _ (r : Whole) (kept : IsKept (held_of r)) where
 -- ---- what is queued
 
 queues_are : (book : Book) (xs : List Account) → flat_map (λ a. queued_numbers book.orders (code_of a)) xs
-    ≡ flat_map (queued_numbers book.orders) (map (λ (p : Participant). p.code) (map participant_of xs))
+    ≡ flat_map (queued_numbers book.orders) (map (λ (p : Participant). p.code) (map participant_in xs))
 unfolding queue
 queues_are book [] = refl
 queues_are book (x ∷ xs) = ap (λ ns. queued_numbers book.orders (code_of x) ++ ns) (queues_are book xs)
 
 pub all_queued : (r : Whole) → flat_map (λ a. queued_numbers r.orders (code_of a)) r.accounts.accounts
-    ≡ flat_map (queued_numbers (book_of r).orders) (accounts (book_of r))
-unfolding accounts
+    ≡ flat_map (queued_numbers (book_of r).orders) (codes_of (book_of r))
+unfolding codes_of
 all_queued r = queues_are (book_of r) r.accounts.accounts
 
 -- the queues of the queued orders alone are the same
@@ -190,9 +190,9 @@ module _ (held : Held) (kept : IsKept held) (law : ClosingMovesNothing) where
   accounts_stay : (after held (closing_rows held.content)).accounts ≡ held.accounts
   accounts_stay =
       ap (λ (h : Held). h.accounts) (after-append held (state_rows Rejected
-      (flat_map (queued_numbers held.content.orders) (accounts held.content)))
+      (flat_map (queued_numbers held.content.orders) (codes_of held.content)))
       (SetDay (record held.content.day { phase = Closed; automatic = false }) ∷ []))
-      ∙ accounts_after-states Rejected (flat_map (queued_numbers held.content.orders) (accounts held.content)) held
+      ∙ accounts_after-states Rejected (flat_map (queued_numbers held.content.orders) (codes_of held.content)) held
 
   pub prepared_closing : (date : ℕ) → OwnStep held.content (command.CloseDay date)
       (Ok (answer.Closed (length (filter is_queued held.content.orders)))) (closed_book held.content)

@@ -13,7 +13,7 @@ use Rattle.rtgs_book.specs.Balance.{balance}
 use Rattle.rtgs_book.specs.Books.{is_closed}
 use Rattle.rtgs_book.specs.Changes.{Leads, balance_set}
 use Rattle.rtgs_book.specs.Commands.{set_credit, with_credit}
-use Rattle.rtgs_book.specs.Lookup.{accounts, is_participant}
+use Rattle.rtgs_book.specs.Lookup.{codes_of, is_participant}
 use Rattle.rtgs_book.specs.Outcome.{first_of}
 use Rattle.rtgs_book.specs.Step.{OwnStep}
 use Rattle.rtgs_records.specs.accounts.Accounts.{with_limit}
@@ -53,7 +53,7 @@ module _ (held : Held) (kept : IsKept held) (code : List ℕ) (credit : ℕ) whe
         ≡ (if int_eq (balance held.content c) (balance (with_credit held.content code credit) c) then None else Some
         (balance (with_credit held.content code credit) c)))
         (λ c. rw (← balance_same c, int_eq_self (balance held.content c)) refl)
-        (accounts (with_credit held.content code credit));
+        (codes_of (with_credit held.content code credit));
   }
 
   pub prepared_credit : IsCredit credit → is_participant held.content code ≡ true

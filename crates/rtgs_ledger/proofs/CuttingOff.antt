@@ -14,7 +14,7 @@ use Rattle.rtgs_book.specs.Balance.{balance}
 use Rattle.rtgs_book.specs.Books.{is_open, is_cut_off}
 use Rattle.rtgs_book.specs.Changes.{Leads, balance_set}
 use Rattle.rtgs_book.specs.Commands.{cut_off, with_day, is_date}
-use Rattle.rtgs_book.specs.Lookup.{accounts}
+use Rattle.rtgs_book.specs.Lookup.{codes_of}
 use Rattle.rtgs_book.specs.Outcome.{first_of}
 use Rattle.rtgs_book.specs.Step.{OwnStep}
 use Rattle.rtgs_ledger.proofs.Balances.{all_same}
@@ -72,7 +72,7 @@ module _ (held : Held) (kept : IsKept held) (date : ℕ) where
     book = refl;
     balances = all_of (λ c. balance_set c (SetDay day ∷ []) ≡ (if int_eq (balance held.content c)
         (balance (with_day held.content day) c) then None else Some (balance (with_day held.content day) c)))
-        (λ c. rw (← balance_same c, int_eq_self (balance held.content c)) refl) (accounts (with_day held.content day));
+        (λ c. rw (← balance_same c, int_eq_self (balance held.content c)) refl) (codes_of (with_day held.content day));
   }
 
   pub prepared_cut_off : (is_cut_off held.content.day.phase && is_date held.content.day.date date) ≡ false

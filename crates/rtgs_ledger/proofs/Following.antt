@@ -31,7 +31,7 @@ use Rattle.rtgs_book.specs.Calm.{IsCalm}
 use Rattle.rtgs_book.specs.Choice.{Choice, chosen, IsGreatest}
 use Rattle.rtgs_book.specs.Commands.{let_in, resolve, with_credit, with_participant, with_state}
 use Rattle.rtgs_book.specs.Laws.{CommandFits}
-use Rattle.rtgs_book.specs.Lookup.{accounts}
+use Rattle.rtgs_book.specs.Lookup.{codes_of}
 use Rattle.rtgs_book.specs.Outcome.{OwnReply, Outcome, is_done, resolution_of, first_of}
 use Rattle.rtgs_book.specs.Soundness.{FloorsHold, IsSound}
 use Rattle.rtgs_book.specs.Step.{OwnStep, Step, Ends, is_followed, may_free}
@@ -114,12 +114,12 @@ day_left old mid core rows is leads =
 
 abbrev pub CreditLeavesAccounts : Type 0
 CreditLeavesAccounts = (book : Book) (code : List ℕ) (credit : ℕ)
-    → accounts (with_credit book code credit) ≡ accounts book
+    → codes_of (with_credit book code credit) ≡ codes_of book
 
 module _ (leaves : CreditLeavesAccounts) where
   pub accounts_stay : (rows : List RowChange) (book : Book) → AllByRecursion AddsNoParticipant rows
-      → accounts (changed book rows) ≡ accounts book
-  unfolding accounts with_state let_in
+      → codes_of (changed book rows) ≡ codes_of book
+  unfolding codes_of with_state let_in
   accounts_stay [] book h = refl
   accounts_stay (AddParticipant p ∷ rows) book h = absurd h.0
   accounts_stay (AddPosting p ∷ rows) book h = accounts_stay rows (with_row book (AddPosting p)) h.1
@@ -353,8 +353,8 @@ own_balances : (book : Book) (ps : List Participant) → AreBalanced book (map (
 own_balances book [] = tt
 own_balances book (p ∷ ps) = (refl, own_balances book ps)
 
-codes_in_core : (book : Book) (core : Core) → IsCoreOf book core → map code_of core.accounts ≡ accounts book
-unfolding core_of accounts
+codes_in_core : (book : Book) (core : Core) → IsCoreOf book core → map code_of core.accounts ≡ codes_of book
+unfolding core_of codes_of
 codes_in_core book core is = ap (λ (c : Core). map code_of c.accounts) is.is ∙ own_codes book book.participants
 
 balanced_core : (book : Book) (core : Core) → IsCoreOf book core → AreBalanced book core.accounts
@@ -492,7 +492,7 @@ Determined = (old new last : Book) (command : Command) (reply other : OwnReply) 
     → OwnStep old command other last → (reply ≡ other) × (new ≡ last)
 
 abbrev pub Join : Type 0
-Join = (old mid new : Book) (one next : List RowChange) → accounts new ≡ accounts old → Leads old one mid
+Join = (old mid new : Book) (one next : List RowChange) → codes_of new ≡ codes_of old → Leads old one mid
     → Leads mid next new → Leads old (joined_rows old one next new) new
 
 module _ (determined : Determined) (book : Book) (core : Core) (command : Command) (own : Answer)
@@ -566,12 +566,12 @@ module _ (determined : Determined) (book : Book) (core : Core) (command : Comman
         let q = f.resolved in
         let new = q.book in
         let adds_none = settling_adds_none more settles.rows_settle in
-        let codes_mid : accounts f.mid ≡ accounts book =
-        ap accounts (sym same.1 ∙ sym p.leads.book) ∙ accounts_stay leaves rows book frees.participants in
-        let codes_new : accounts new ≡ accounts book =
-        ap accounts (sym q.leads.book) ∙ accounts_stay leaves more f.mid adds_none ∙ codes_mid in
+        let codes_mid : codes_of f.mid ≡ codes_of book =
+        ap codes_of (sym same.1 ∙ sym p.leads.book) ∙ accounts_stay leaves rows book frees.participants in
+        let codes_new : codes_of new ≡ codes_of book =
+        ap codes_of (sym q.leads.book) ∙ accounts_stay leaves more f.mid adds_none ∙ codes_mid in
         let after = (core_after between more).accounts in
-        let codes_after : map code_of after ≡ accounts book =
+        let codes_after : map code_of after ≡ codes_of book =
         ap (map code_of) (sym (same_accounts (held_in f.mid between) between more refl))
         ∙ codes_stay more (held_in f.mid between) (leaving more adds_none) ∙ codes_in_core f.mid between f.between
         ∙ codes_mid in

@@ -21,7 +21,7 @@ use Rattle.rtgs_book.specs.Balance.{balance, floor, floor_at}
 use Rattle.rtgs_book.specs.Books.{is_closed, is_empty, is_queued}
 use Rattle.rtgs_book.specs.Changes.{Leads, balance_set, changed, or_else, with_row}
 use Rattle.rtgs_book.specs.Commands.{with_credit}
-use Rattle.rtgs_book.specs.Lookup.{accounts, credit_of, has_code, participant_of}
+use Rattle.rtgs_book.specs.Lookup.{codes_of, credit_of, has_code, participant_of}
 use Rattle.rtgs_book.specs.Queue.{queue, queued_among}
 use Rattle.rtgs_laws.specs.Quiet.{FreesNothing, GainsNothing, brings, queued_to, value_of}
 use Rattle.rtgs_ledger.specs.Following.{AddsNoParticipant, day_after}
@@ -226,9 +226,9 @@ module _ (leaves : CreditLeavesAccounts) (old new : Book) (rows : List RowChange
   pub rows_free_nothing : FreesNothing old new
   rows_free_nothing = record {
     day_stays = same_day;
-    accounts_stay = ap accounts (sym leads.book) ∙ accounts_stay leaves rows old (add_none old rows h);
+    accounts_stay = ap codes_of (sym leads.book) ∙ accounts_stay leaves rows old (add_none old rows h);
     queues = λ code. inl ([], sym (same_queue code) ∙ sym (append-nil (queue new code)));
     gains = all_weaker (λ code. balance_set code rows
         ≡ (if int_eq (balance old code) (balance new code) then None else Some (balance new code)))
-        (λ code. is_empty (queue new code) ≡ false → GainsNothing old new code) gain_at (accounts new) leads.balances;
+        (λ code. is_empty (queue new code) ≡ false → GainsNothing old new code) gain_at (codes_of new) leads.balances;
   }

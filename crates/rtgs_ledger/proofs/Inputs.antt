@@ -9,7 +9,7 @@ use Rattle.std.specs.List.Sorted.{IsStrictlySortedBy}
 use Rattle.std.specs.Cmp.Lexicographic.{slice_cmp, bytes_decides}
 use Rattle.rtgs_book.specs.declared.book.Book.{Book}
 use Rattle.rtgs_book.specs.Balance.{balance}
-use Rattle.rtgs_book.specs.Lookup.{accounts}
+use Rattle.rtgs_book.specs.Lookup.{codes_of}
 use Rattle.rtgs_book.specs.Soundness.{IsSound}
 use Rattle.rtgs_gridlock.specs.declared.positions.Position.{Position}
 use Rattle.rtgs_choices.specs.ByIndex.{code_at, index_of, position_of, positions_of, payment_of, payments_of, queues_of}
@@ -22,7 +22,7 @@ use Rattle.rtgs_book.specs.declared.order_state.OrderState.{OrderState}
 use Rattle.rtgs_book.specs.declared.order_state.OrderState.TheVariants.{Queued, Held, Settled, Withdrawn, Rejected}
 use Rattle.rtgs_book.specs.declared.participant.Participant.{Participant}
 use Rattle.rtgs_book.specs.Books.{is_queued, is_queued_state, is_waiting, is_waiting_state}
-use Rattle.rtgs_records.specs.accounts.Accounts.{participant_of}
+use Rattle.rtgs_records.specs.accounts.Accounts.{participant_in}
 use Rattle.std.specs.Str.{bytes_eq}
 use Rattle.std.proofs.Common.{◌&&◌, Bool, true, false}
 use Rattle.rtgs_lists.proofs.Filters.{filter_shorter}
@@ -86,7 +86,7 @@ module _ (r : Whole) (kept : IsKept (held_of r)) where
 
   pub positions_are : CodesRiseStrictly r.accounts.accounts → map (position_in (book_of r)) r.accounts.accounts
       ≡ positions_of (book_of r)
-  unfolding positions_of accounts
+  unfolding positions_of codes_of
   positions_are rise = each_position r.accounts.accounts (all_found r.accounts.accounts rise) kept.balanced
       ∙ ap (map (position_of (book_of r))) (codes-participants r.accounts.accounts)
 
@@ -96,7 +96,7 @@ map-map g f (x ∷ xs) = ap (λ ys. g (f x) ∷ ys) (map-map g f xs)
 
 pub index_is : (r : Whole) (code : List ℕ) → position_or_len (bytes_eq code) (map code_of r.accounts.accounts)
     ≡ index_of (book_of r) code
-unfolding index_of accounts
+unfolding index_of codes_of
 index_is r code = ap (position_or_len (bytes_eq code)) (codes-participants r.accounts.accounts)
 
 -- the queues of a core are those of its book
@@ -106,7 +106,7 @@ pub queues_are : (r : Whole) (queued : List Order) → ((code : List ℕ) → qu
       receiver = position_or_len (bytes_eq o.receiver) (map code_of r.accounts.accounts);
       amount = o.amount;
     }) (queued_among queued (code_of a))) r.accounts.accounts ≡ queues_of (book_of r)
-unfolding queues_of accounts index_of
+unfolding queues_of codes_of index_of
 queues_are r queued same =
     each r.accounts.accounts
     ∙ map-map (payments_of (book_of r)) code_of r.accounts.accounts
@@ -150,13 +150,13 @@ one_queue_more lengths queued xs i a done new less here is so_far =
     ∙ so_far
 
 -- as many codes as accounts
-pub count_is : (r : Whole) → length (accounts (book_of r)) ≡ length r.accounts.accounts
-unfolding accounts
+pub count_is : (r : Whole) → length (codes_of (book_of r)) ≡ length r.accounts.accounts
+unfolding codes_of
 count_is r = ap length (sym (codes-participants r.accounts.accounts)) ∙ length-map r.accounts.accounts code_of
 
 pub code_at_is : (r : Whole) (i : ℕ) (d : Account) → i < length r.accounts.accounts
     → code_at (book_of r) i ≡ code_of (get_or r.accounts.accounts i d)
-unfolding accounts
+unfolding codes_of
 code_at_is r i d less = ap (λ codes. get_or codes i []) (sym (codes-participants r.accounts.accounts))
     ∙ get_or-map code_of r.accounts.accounts i d [] less
 
@@ -176,7 +176,7 @@ pub taken_is : (r : Whole) (choice : Choice) (lengths : ℕ → ℕ) (queued : L
     → ((k : ℕ) (d : Account) → k < length r.accounts.accounts
     → choice (code_of (get_or r.accounts.accounts k d)) ≡ lengths k)
     → taken_from lengths queued 0 r.accounts.accounts ≡ orders_taken (book_of r) choice
-unfolding orders_taken accounts
+unfolding orders_taken codes_of
 taken_is r choice lengths queued same agree = taken_each (book_of r) choice lengths queued 0 r.accounts.accounts same
     (λ k d lt. agree k d lt ∙ ap lengths (omega arith))
     ∙ ap (flat_map (λ code. take (choice code) (queue (book_of r) code))) (codes-participants r.accounts.accounts)
@@ -220,14 +220,14 @@ short_queue book code few =
 pub few_taken : (r : Whole) (lengths : ℕ → ℕ) (queued : List Order) → IsSound (book_of r)
     → ((code : List ℕ) → queued_among queued code ≡ queue (book_of r) code)
     → length (taken_from lengths queued 0 r.accounts.accounts) ≤ MOST_QUEUED
-unfolding accounts
+unfolding codes_of
 few_taken r lengths queued sound same =
     let short = subst (AllByRecursion (λ code. length (queue (book_of r) code) ≤ LONGEST_QUEUE))
     (sym (codes-participants r.accounts.accounts))
     (all_weaker (λ code. length (waiting (book_of r) code) ≤ LONGEST_QUEUE)
     (λ code. length (queue (book_of r) code) ≤ LONGEST_QUEUE) (λ code few. short_queue (book_of r) code few)
-    (map (λ (p : Participant). p.code) (map participant_of r.accounts.accounts)) sound.queues.short) in
-    let few : length (accounts (book_of r)) ≤ MOST_PARTICIPANTS = sound.codes_rise.1 in
+    (map (λ (p : Participant). p.code) (map participant_in r.accounts.accounts)) sound.queues.short) in
+    let few : length (codes_of (book_of r)) ≤ MOST_PARTICIPANTS = sound.codes_rise.1 in
     let count = count_is r in
     let all = taken_few (book_of r) lengths queued 0 r.accounts.accounts same short in
     omega (arith, few, count, all)
@@ -272,7 +272,7 @@ module _ (book : Book) (r : Records) (held : seen.Held) (view : seen_of r ≡ he
       ∙ ap queues_of of.same
 
   pub greatest_taken : (lengths : ℕ → ℕ) → ((b : Book) (lengths : ℕ → ℕ) (i : ℕ) → IsSound b
-      → i < length (accounts b) → by_code b lengths (code_at b i) ≡ lengths i) → IsGreatest book (by_code book lengths)
+      → i < length (codes_of b) → by_code b lengths (code_at b i) ≡ lengths i) → IsGreatest book (by_code book lengths)
       → (orders : List Order) → orders ≡ taken_from lengths held.core.waiting 0 held.core.accounts
       → AreGreatest book orders
   greatest_taken lengths agreed greatest orders e =
@@ -282,7 +282,7 @@ module _ (book : Book) (r : Records) (held : seen.Held) (view : seen_of r ≡ he
       → choice (code_of (get_or r.accounts.accounts k d)) ≡ lengths k = λ k d lt.
       ap choice (sym (code_at_is (whole book r) k d lt) ∙ ap (λ (b : Book). code_at b k) of.same)
       ∙ agreed book lengths k is.sound (subst (λ n. k < n) (sym (count_is (whole book r))
-      ∙ ap (λ (b : Book). length (accounts b)) of.same) lt) in
+      ∙ ap (λ (b : Book). length (codes_of b)) of.same) lt) in
       let here : orders ≡ taken_from lengths r.orders.orders 0 r.accounts.accounts = e
       ∙ ap (λ (h : seen.Held). taken_from lengths h.core.waiting 0 h.core.accounts) (sym view) in
       record {
@@ -296,8 +296,8 @@ module _ (book : Book) (r : Records) (held : seen.Held) (view : seen_of r ≡ he
 
 -- the resolver can be given what a sound book has
 pub resolvable : (book : Book) (positions : List Position) (queues : List (List Payment))
-    → positions ≡ positions_of book → queues ≡ queues_of book → length (positions_of book) ≡ length (accounts book)
-    → length (queues_of book) ≡ length (accounts book) → AreFloored (positions_of book) → AreInRange (queues_of book)
+    → positions ≡ positions_of book → queues ≡ queues_of book → length (positions_of book) ≡ length (codes_of book)
+    → length (queues_of book) ≡ length (codes_of book) → AreFloored (positions_of book) → AreInRange (queues_of book)
     → payment_count (queues_of book) ≤ MOST_QUEUED → CanResolve positions queues
 resolvable book positions queues p q many long floored receivers few = record {
   floored = subst AreFloored (sym p) floored;

@@ -20,11 +20,11 @@ use Rattle.rtgs_book.specs.Balance.{balance, floor, total}
 use Rattle.rtgs_book.specs.Changes.{Leads, StartsEmpty, balance_set, SetsBalances}
 use Rattle.rtgs_book.specs.IntSum.{int_sum_by}
 use Rattle.rtgs_book.specs.Lookup as lookup
-use Rattle.rtgs_book.specs.Lookup.{has_code, accounts, is_participant, credit_of}
+use Rattle.rtgs_book.specs.Lookup.{has_code, codes_of, is_participant, credit_of}
 use Rattle.rtgs_book.specs.Step.{OwnStep}
 use Rattle.rtgs_book.specs.declared.account.Account.{Account}
 use Rattle.rtgs_book.specs.declared.limits.TheConstants.{LARGEST_BALANCE}
-use Rattle.rtgs_records.specs.accounts.Accounts.{code_of, participant_of, balance_of, is_of, has_key}
+use Rattle.rtgs_records.specs.accounts.Accounts.{code_of, participant_in, balance_of, is_of, has_key}
 use Rattle.rtgs_book.specs.cores.Following.{AreBalanced}
 use Rattle.rtgs_ledger.proofs.Whole.{Held, IsKept, IsPrepared, Whole, after, book_of, held_of}
 use Rattle.rtgs_lists.proofs.Codes.{bytes_eq_comm}
@@ -33,33 +33,33 @@ use Rattle.rtgs_lists.proofs.Numbers.{int_eq_self}
 
 -- ---- the accounts and the participants
 
-pub find-participants : (code : List ℕ) (xs : List Account) → find (has_code code) (map participant_of xs)
-    ≡ option_map participant_of (find (is_of code) xs)
+pub find-participants : (code : List ℕ) (xs : List Account) → find (has_code code) (map participant_in xs)
+    ≡ option_map participant_in (find (is_of code) xs)
 find-participants code [] = refl
 find-participants code (x ∷ xs) = by (is_of code x) (find-participants code xs)
   where
-    by : (b : Bool) → find (has_code code) (map participant_of xs) ≡ option_map participant_of (find (is_of code) xs)
-        → cond b (Some (participant_of x)) (find (has_code code) (map participant_of xs))
-        ≡ option_map participant_of (cond b (Some x) (find (is_of code) xs))
+    by : (b : Bool) → find (has_code code) (map participant_in xs) ≡ option_map participant_in (find (is_of code) xs)
+        → cond b (Some (participant_in x)) (find (has_code code) (map participant_in xs))
+        ≡ option_map participant_in (cond b (Some x) (find (is_of code) xs))
     by true e = refl
     by false e = e
 
 pub any-participants : (key : List ℕ) (xs : List Account) → list_any (λ (p : Participant). bytes_eq p.key key)
-    (map participant_of xs) ≡ list_any (has_key key) xs
+    (map participant_in xs) ≡ list_any (has_key key) xs
 any-participants key [] = refl
 any-participants key (x ∷ xs) = ap (λ b. has_key key x || b) (any-participants key xs)
 
-pub length-participants : (xs : List Account) → length (map participant_of xs) ≡ length xs
-length-participants xs = length-map xs participant_of
+pub length-participants : (xs : List Account) → length (map participant_in xs) ≡ length xs
+length-participants xs = length-map xs participant_in
 
-pub all_participants : (P : Participant → Type 0) (xs : List Account) → AllByRecursion (λ a. P (participant_of a)) xs
-    → AllByRecursion P (map participant_of xs)
+pub all_participants : (P : Participant → Type 0) (xs : List Account) → AllByRecursion (λ a. P (participant_in a)) xs
+    → AllByRecursion P (map participant_in xs)
 all_participants P [] h = tt
 all_participants P (x ∷ xs) h = (h.0, all_participants P xs h.1)
 
 -- what holds of each code holds of that of an account that is found, which is the code
 found_code : (P : List ℕ → Type 0) (code : List ℕ) (xs : List Account) (a : Account) → find (is_of code) xs ≡ Some a
-    → AllByRecursion P (map (λ (p : Participant). p.code) (map participant_of xs)) → P code
+    → AllByRecursion P (map (λ (p : Participant). p.code) (map participant_in xs)) → P code
 found_code P code [] a e h = absurd (let f : None ≡ Some a = e in cc)
 found_code P code (x ∷ xs) a e h = by (is_of code x) refl e (λ f. found_code P code xs a f h.1)
   where
@@ -89,14 +89,14 @@ found_balance book code (x ∷ xs) a e h = by (is_of code x) refl e (λ f. found
     by false f g rest = rest g
 
 found_any : (code : List ℕ) (xs : List Account) (a : Account) → find (is_of code) xs ≡ Some a
-    → list_any (bytes_eq code) (map (λ (p : Participant). p.code) (map participant_of xs)) ≡ true
+    → list_any (bytes_eq code) (map (λ (p : Participant). p.code) (map participant_in xs)) ≡ true
 found_any code [] a e = absurd (let f : None ≡ Some a = e in cc)
 found_any code (x ∷ xs) a e = by (is_of code x) refl e (λ f. found_any code xs a f)
   where
     by : (b : Bool) → is_of code x ≡ b → cond b (Some x) (find (is_of code) xs) ≡ Some a
         → (find (is_of code) xs ≡ Some a → list_any (bytes_eq code)
-        (map (λ (p : Participant). p.code) (map participant_of xs)) ≡ true)
-        → list_any (bytes_eq code) (map (λ (p : Participant). p.code) (map participant_of (x ∷ xs))) ≡ true
+        (map (λ (p : Participant). p.code) (map participant_in xs)) ≡ true)
+        → list_any (bytes_eq code) (map (λ (p : Participant). p.code) (map participant_in (x ∷ xs))) ≡ true
     by true f g rest = rw (bytes_eq_comm code (code_of x), f) refl
     by false f g rest = rw (bytes_eq_comm code (code_of x), f) (rest g)
 
@@ -112,19 +112,19 @@ none_of code (x ∷ xs) e = by (is_of code x) refl e (none_of code xs)
     by false f g rest = (f, rest g)
 
 none_any : (code : List ℕ) (xs : List Account) → AllByRecursion (λ a. is_of code a ≡ false) xs
-    → list_any (bytes_eq code) (map (λ (p : Participant). p.code) (map participant_of xs)) ≡ false
+    → list_any (bytes_eq code) (map (λ (p : Participant). p.code) (map participant_in xs)) ≡ false
 none_any code [] h = refl
 none_any code (x ∷ xs) h = rw (bytes_eq_comm code (code_of x), h.0) (none_any code xs h.1)
 
 sum_of_balances : (book : Book) (xs : List Account) → AreBalanced book xs
-    → int_sum_by balance_of xs ≡ int_sum_by (balance book) (map (λ (p : Participant). p.code) (map participant_of xs))
+    → int_sum_by balance_of xs ≡ int_sum_by (balance book) (map (λ (p : Participant). p.code) (map participant_in xs))
 sum_of_balances book [] h = refl
 sum_of_balances book (x ∷ xs) h = λ i. h.0 i +ℤ sum_of_balances book xs h.1 i
 
 -- a change of no row, to the same book
 pub no_balance_set : (book : Book) → SetsBalances book [] book
 no_balance_set book = all_of (λ code. balance_set code [] ≡ (if int_eq (balance book code) (balance book code) then None
-    else Some (balance book code))) (λ code. rw (int_eq_self (balance book code)) refl) (accounts book)
+    else Some (balance book code))) (λ code. rw (int_eq_self (balance book code)) refl) (codes_of book)
 
 pub prepared_repeat : (held : Held) (c : Command) (k : Known) → IsKept held
     → OwnStep held.content c (Ok (Repeated k)) held.content → IsPrepared held c (Repeated k) []
@@ -143,21 +143,21 @@ module _ (r : Whole) (kept : IsKept (held_of r)) where
   pub participant_at : (code : List ℕ) (a : Account) → find (is_of code) r.accounts.accounts ≡ Some a
       → lookup.participant_of (book_of r) code ≡ Some a.participant
   unfolding lookup.participant_of
-  participant_at code a e = find-participants code r.accounts.accounts ∙ ap (option_map participant_of) e
+  participant_at code a e = find-participants code r.accounts.accounts ∙ ap (option_map participant_in) e
 
   pub participant_none : (code : List ℕ) → find (is_of code) r.accounts.accounts ≡ None
       → lookup.participant_of (book_of r) code ≡ None
   unfolding lookup.participant_of
-  participant_none code e = find-participants code r.accounts.accounts ∙ ap (option_map participant_of) e
+  participant_none code e = find-participants code r.accounts.accounts ∙ ap (option_map participant_in) e
 
   pub is_known : (code : List ℕ) (a : Account) → find (is_of code) r.accounts.accounts ≡ Some a
       → is_participant (book_of r) code ≡ true
-  unfolding is_participant accounts
+  unfolding is_participant codes_of
   is_known code a e = found_any code r.accounts.accounts a e
 
   pub is_unknown : (code : List ℕ) → find (is_of code) r.accounts.accounts ≡ None
       → is_participant (book_of r) code ≡ false
-  unfolding is_participant accounts
+  unfolding is_participant codes_of
   is_unknown code e = none_any code r.accounts.accounts (none_of code r.accounts.accounts e)
 
   pub balance_at : (code : List ℕ) (a : Account) → find (is_of code) r.accounts.accounts ≡ Some a
@@ -167,7 +167,7 @@ module _ (r : Whole) (kept : IsKept (held_of r)) where
   -- the balance is far from the ends of 64 bits
   pub balance_fits : BalancesFit (book_of r) → (code : List ℕ) (a : Account)
       → find (is_of code) r.accounts.accounts ≡ Some a → Within LARGEST_BALANCE a.balance
-  unfolding accounts
+  unfolding codes_of
   balance_fits small code a e = subst (Within LARGEST_BALANCE) (sym (balance_at code a e))
       (found_code (λ c. Within LARGEST_BALANCE (balance (book_of r) c)) code r.accounts.accounts a e small)
 
@@ -177,7 +177,7 @@ module _ (r : Whole) (kept : IsKept (held_of r)) where
   floor_at code a e = rw (participant_at code a e) refl
 
   pub total_at : int_sum_by balance_of r.accounts.accounts ≡ total (book_of r)
-  unfolding total accounts
+  unfolding total codes_of
   total_at = sum_of_balances (book_of r) r.accounts.accounts kept.balanced
 
 -- a command that was not done before, and rows that lead on
@@ -198,6 +198,6 @@ prepared_done held c a rows book in_range step leads added balanced new some = r
 }
 
 pub codes-participants : (xs : List Account) → map code_of xs
-    ≡ map (λ (p : Participant). p.code) (map participant_of xs)
+    ≡ map (λ (p : Participant). p.code) (map participant_in xs)
 codes-participants [] = refl
 codes-participants (x ∷ xs) = λ i. code_of x ∷ codes-participants xs i

@@ -8,7 +8,7 @@ use Rattle.rtgs_book.specs.declared.order.Order.{Order}
 use Rattle.rtgs_book.specs.declared.limits.TheConstants.{MOST_PARTICIPANTS}
 use Rattle.rtgs_book.specs.declared.participant.Participant.{Participant}
 use Rattle.rtgs_book.specs.Books.{is_waiting}
-use Rattle.rtgs_book.specs.Lookup.{accounts}
+use Rattle.rtgs_book.specs.Lookup.{codes_of}
 use Rattle.rtgs_book.specs.Soundness.{OrdersAreNumbered}
 use Rattle.rtgs_book.specs.declared.cores.cores.Core.{Core}
 use Rattle.rtgs_book.specs.cores.Cores.{account_of, core_of, IsCoreOf}
@@ -32,12 +32,12 @@ module _ (book : Book) (core : Core) (is : IsCoreOf book core) where
   waits = ap (λ (c : Core). c.waiting) is.is
 
   pub in_order : CodesRiseStrictly core.accounts
-  unfolding core_of accounts
+  unfolding core_of codes_of
   in_order = subst CodesRiseStrictly (sym (ap (λ (c : Core). c.accounts) is.is))
       (rw (own_codes book book.participants) is.sound.codes_rise.0)
 
   pub of_a_book : AreOfABook core.accounts
-  unfolding core_of accounts
+  unfolding core_of codes_of
   of_a_book =
       let own : core.accounts ≡ map (account_of book) book.participants = ap (λ (c : Core). c.accounts) is.is in
       record {

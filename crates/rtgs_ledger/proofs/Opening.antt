@@ -13,8 +13,8 @@ use Rattle.rtgs_book.specs.declared.new_day.NewDay.{NewDay}
 use Rattle.rtgs_book.specs.Balance.{balance}
 use Rattle.rtgs_book.specs.Books.{is_open, is_closed}
 use Rattle.rtgs_book.specs.Changes.{Leads, balance_set}
-use Rattle.rtgs_book.specs.Commands.{open_day, opened_day, with_day, has_choice, is_date, is_later, is_due, is_due_by}
-use Rattle.rtgs_book.specs.Commands.{let_in}
+use Rattle.rtgs_book.specs.Commands.{open_day, opened_day, with_day, is_automatic_as, is_date, is_later, is_due}
+use Rattle.rtgs_book.specs.Commands.{is_due_by, let_in}
 use Rattle.rtgs_book.specs.declared.change.RowChange.{RowChange}
 use Rattle.rtgs_book.specs.declared.change.RowChange.TheVariants.{EnterQueue}
 use Rattle.rtgs_book.specs.declared.order.Order.{Order}
@@ -30,7 +30,7 @@ use Rattle.rtgs_book.specs.cores.Following.{AreBalanced}
 use Rattle.std.proofs.Common.{Bool, ◌++◌, filter, ap, ◌∙◌, sym, subst}
 use Rattle.std.proofs.lemmas.Bool.{and_parts}
 use Rattle.std.specs.List.{AllByRecursion}
-use Rattle.rtgs_book.specs.Lookup.{accounts}
+use Rattle.rtgs_book.specs.Lookup.{codes_of}
 use Rattle.rtgs_book.specs.Outcome.{first_of}
 use Rattle.rtgs_book.specs.Step.{OwnStep}
 use Rattle.rtgs_ledger.proofs.Balances.{all_same}
@@ -42,13 +42,13 @@ use Rattle.rtgs_lists.proofs.Numbers.{int_eq_self}
 
 module _ (book : Book) (new_day : NewDay) where
   pub repeats : (is_open book.day.phase && is_date book.day.date new_day.date
-      && has_choice new_day.automatic book.day) ≡ true
+      && is_automatic_as new_day.automatic book.day) ≡ true
       → OwnStep book (OpenDay new_day) (Ok (Repeated Nothing)) book
   unfolding open_day first_of
   repeats same = rw same refl
 
   module _ (new : (is_open book.day.phase && is_date book.day.date new_day.date
-      && has_choice new_day.automatic book.day) ≡ false) where
+      && is_automatic_as new_day.automatic book.day) ≡ false) where
     pub wrong_phase : is_closed book.day.phase ≡ false → OwnStep book (OpenDay new_day) (Err WrongPhase) book
     unfolding open_day first_of
     wrong_phase not_closed = rw (new, not_closed) refl
@@ -147,11 +147,11 @@ module _ (held : Held) (kept : IsKept held) (new_day : NewDay) (law : BalanceAft
         else Some (balance opened c)))
         (λ c. sets_none c new_day.date entering (opened_day new_day)
         ∙ rw (← balance_same c, int_eq_self (balance held.content c)) refl)
-        (accounts opened);
+        (codes_of opened);
   }
 
   pub prepared_open : (is_open held.content.day.phase && is_date held.content.day.date new_day.date
-      && has_choice new_day.automatic held.content.day) ≡ false → is_closed held.content.day.phase ≡ true
+      && is_automatic_as new_day.automatic held.content.day) ≡ false → is_closed held.content.day.phase ≡ true
       → is_later new_day.date held.content.day.date ≡ true → is_weekend new_day.date ≡ false
       → IsPrepared held (OpenDay new_day) Opened opening_rows
   prepared_open new closed later working =

@@ -38,7 +38,7 @@ use Rattle.rtgs_book.specs.Changes.{Leads, balance_set, or_else}
 use Rattle.rtgs_book.specs.Commands.{order, takes, takes_due, taken_order, order_numbered, first_state, with_order}
 use Rattle.rtgs_book.specs.Commands.{as_sent, says_the_same, settles_at_once, settles_now}
 use Rattle.rtgs_book.specs.Commands.{has_number, is_due_too_early, is_due_on_a_weekend}
-use Rattle.rtgs_book.specs.Lookup.{accounts, is_participant, order_named}
+use Rattle.rtgs_book.specs.Lookup.{codes_of, is_participant, order_named}
 use Rattle.rtgs_book.specs.Outcome.{first_of}
 use Rattle.rtgs_book.specs.Queue.{queue, waiting, queued_numbers}
 use Rattle.rtgs_records.specs.queues.Orders.{numbers_among}
@@ -409,7 +409,7 @@ module _ (held : Held) (kept : IsKept held) (o : Order) (taken : IsTaken held.co
     balances = all_of (λ c. balance_set c (AddOrder o ∷ [])
         ≡ (if int_eq (balance held.content c) (balance (with_order held.content o) c) then None else Some
         (balance (with_order held.content o) c))) (λ c. rw (← same_balance c, int_eq_self (balance held.content c))
-        refl) (accounts (with_order held.content o));
+        refl) (codes_of (with_order held.content o));
   }
 
   pub prepared_held : (due : ℕ) → o.due ≡ Some due
@@ -524,7 +524,7 @@ module _ (held : Held) (kept : IsKept held) (o : Order) (taken : IsTaken held.co
     prepared_settled direct settles =
         let leads : Leads held.content rows (with_settled held.content o) = record {
           book = refl;
-          balances = all_of _ (sets (let f = taken.fits in f.0)) (accounts (with_settled held.content o));
+          balances = all_of _ (sets (let f = taken.fits in f.0)) (codes_of (with_settled held.content o));
         } in
         prepared_done held (command.Order o.sender (as_sent o))
         (answer.Settled o.number (next_mark held.content)) rows (with_settled held.content o) taken.fits

@@ -14,7 +14,7 @@ use Rattle.rtgs_book.specs.declared.refusal.Refusal.TheVariants.{TotalTooLarge, 
 use Rattle.rtgs_book.specs.declared.book.Book.{Book}
 use Rattle.rtgs_book.specs.declared.posting.Posting.{Posting}
 use Rattle.rtgs_book.specs.Balance.{balance, floor, total}
-use Rattle.rtgs_book.specs.Lookup.{is_participant, posting_named, accounts}
+use Rattle.rtgs_book.specs.Lookup.{is_participant, posting_named, codes_of}
 use Rattle.rtgs_book.specs.Outcome.{first_of}
 use Rattle.rtgs_book.specs.Commands.{post}
 use Rattle.rtgs_book.specs.Step.{OwnStep}
@@ -138,7 +138,7 @@ module _ (r : Whole) (kept : IsKept (held_of r)) (code reference : List ℕ) (ce
   prepared_post in_range absent few small covered =
       let step = posts (book_of r) code reference cents (is_known r kept code a found) absent few small covered in
       let leads : Leads (book_of r) (AddPosting q ∷ SetBalance code b ∷ []) (with_posting (book_of r) q) =
-      record { book = refl; balances = all_of _ (sets_one in_range.0) (accounts (with_posting (book_of r) q)) } in
+      record { book = refl; balances = all_of _ (sets_one in_range.0) (codes_of (with_posting (book_of r) q)) } in
       prepared_done (held_of r) (command.Post code reference cents) (Posted (length r.postings + 1))
       (AddPosting q ∷ SetBalance code b ∷ []) (with_posting (book_of r) q) in_range step leads
       (tt, (tt, tt))

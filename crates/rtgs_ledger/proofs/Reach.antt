@@ -23,7 +23,7 @@ use Rattle.rtgs_book.specs.Books.{is_empty, is_queued, is_queued_state, is_settl
 use Rattle.rtgs_book.specs.Books.{is_waiting_state}
 use Rattle.rtgs_book.specs.Changes.{Leads, SetsBalances, balance_set}
 use Rattle.rtgs_book.specs.Commands.{has_number, with_state}
-use Rattle.rtgs_book.specs.Lookup.{accounts, credit_of, is_participant, participant_of}
+use Rattle.rtgs_book.specs.Lookup.{codes_of, credit_of, is_participant, participant_of}
 use Rattle.rtgs_book.specs.Queue.{queue, queued_among, queued_numbers}
 use Rattle.rtgs_book.specs.Settle.{altered, in_state}
 use Rattle.rtgs_book.specs.Soundness.{IsSound, OrdersAreNumbered, has_parties}
@@ -184,7 +184,7 @@ module _ (old : Book) (o : Order) (queued : is_queued o ≡ true) where
         )
 
     with_order_frees_nothing : FreesNothing old with_order
-    unfolding accounts
+    unfolding codes_of
     with_order_frees_nothing = record {
       day_stays = refl;
       accounts_stay = refl;
@@ -192,7 +192,7 @@ module _ (old : Book) (o : Order) (queued : is_queued o ≡ true) where
       gains = all_of (λ code. is_empty (queue with_order code) ≡ false → GainsNothing old with_order code)
           (λ code some.
           let money = same_balance code in let least = same_floor code in inl (omega (arith, ints)))
-          (accounts with_order);
+          (codes_of with_order);
     }
 
 pub order_frees_nothing : (old new : Book) (o : Order) → is_queued o ≡ true → IsSound new
@@ -301,8 +301,8 @@ module _ (old : Book) (number : ℕ) (state : OrderState) (out : is_waiting_stat
   unfolding with_state
   left_day = refl
 
-  left_accounts : accounts left ≡ accounts old
-  unfolding accounts with_state
+  left_accounts : codes_of left ≡ codes_of old
+  unfolding codes_of with_state
   left_accounts = refl
 
   module _ (lead : NumbersLeadToOrders) (law : QueuesAreOfTheWaiting) (rise : QueuesRise)
@@ -378,7 +378,7 @@ module _ (old : Book) (number : ℕ) (state : OrderState) (out : is_waiting_stat
       queues = λ code. inl (beginning code);
       gains = all_weaker (λ code. balance_set code (SetState number state ∷ [])
           ≡ (if int_eq (balance old code) (balance left code) then None else Some (balance left code)))
-          (λ code. is_empty (queue left code) ≡ false → GainsNothing old left code) still (accounts left) balances;
+          (λ code. is_empty (queue left code) ≡ false → GainsNothing old left code) still (codes_of left) balances;
     }
 
     pub last_frees_nothing : (new : Book) → Leads old (SetState number state ∷ []) new → FreesNothing old new

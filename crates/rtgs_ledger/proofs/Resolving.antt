@@ -25,7 +25,7 @@ use Rattle.rtgs_book.specs.Changes.{Leads, StartsEmpty, SetsBalances, balance_se
 use Rattle.rtgs_book.specs.Choice.{Choice, chosen, is_chosen, balance_after, IsGreatest}
 use Rattle.rtgs_book.specs.Commands.{resolve}
 use Rattle.rtgs_book.specs.IntSum.{int_sum_by}
-use Rattle.rtgs_book.specs.Lookup.{accounts}
+use Rattle.rtgs_book.specs.Lookup.{codes_of}
 use Rattle.rtgs_book.specs.Outcome.{first_of}
 use Rattle.rtgs_book.specs.Settle.{restated, settle, mark_of, next_mark}
 use Rattle.rtgs_book.specs.Soundness.{IsSound}
@@ -33,7 +33,7 @@ use Rattle.rtgs_book.specs.Step.{OwnStep}
 use Rattle.rtgs_choices.specs.Settling.{orders_taken, numbers_taken, state_rows, IsOfBalance, moves, balance_rows}
 use Rattle.rtgs_choices.specs.Settling.{settling_rows}
 use Rattle.rtgs_book.specs.declared.account.Account.{Account}
-use Rattle.rtgs_records.specs.accounts.Accounts.{code_of, participant_of, is_of, with_balance, with_limit}
+use Rattle.rtgs_records.specs.accounts.Accounts.{code_of, participant_in, is_of, with_balance, with_limit}
 use Rattle.rtgs_ledger.specs.Kept.{WouldAct}
 use Rattle.rtgs_ledger.specs.Resolving.{AreGreatest, after_orders, moved_rows}
 use Rattle.rtgs_ledger.proofs.Balances.{moved, all_moved}
@@ -143,7 +143,7 @@ all_new old new rows (x ∷ xs) h e = (
 
 -- rows that set the balances that move leave the accounts balanced
 pub balanced_after : (held : Held) (rows : List RowChange) (new : Book) → AllByRecursion LeavesParticipants rows
-    → AreBalanced held.content held.accounts → accounts new ≡ map code_of held.accounts
+    → AreBalanced held.content held.accounts → codes_of new ≡ map code_of held.accounts
     → SetsBalances held.content rows new → AreBalanced new (after held rows).accounts
 balanced_after held rows new leaves balanced same sets =
     all_new held.content new rows (after held rows).accounts (all_set rows held (balance held.content) leaves balanced)
@@ -196,7 +196,7 @@ set_balances f (code ∷ codes) = (tt, set_balances f codes)
 
 of_balance : (book : Book) (choice : Choice) → AllByRecursion IsOfBalance (balance_rows book choice)
 unfolding balance_rows
-of_balance book choice = set_balances (balance_after book choice) (filter (moves book choice) (accounts book))
+of_balance book choice = set_balances (balance_after book choice) (filter (moves book choice) (codes_of book))
 
 balances_leave : (rows : List RowChange) → AllByRecursion IsOfBalance rows → AllByRecursion LeavesParticipants rows
 balances_leave [] h = tt
@@ -222,8 +222,8 @@ settling_leaves book choice numbers mark = states_leave (Settled mark.number) nu
 
 -- ---- a resolution
 
-codes_settled : (book : Book) (is_in : Order → Bool) → accounts (settle book is_in) ≡ accounts book
-unfolding accounts settle
+codes_settled : (book : Book) (is_in : Order → Bool) → codes_of (settle book is_in) ≡ codes_of book
+unfolding codes_of settle
 codes_settled book is_in = by (map (restated is_in (Settled (next_mark book))) book.orders)
     (book.marks ++ mark_of book (filter is_in book.orders) ∷ []) (is_empty (filter is_in book.orders))
   where
@@ -349,7 +349,7 @@ module _ (held : Held) (kept : IsKept held) (orders : List Order) (g : AreGreate
         nothing = λ _. refl;
       }
 
-  module _ (same : book.participants ≡ map participant_of held.accounts) (some : 1 ≤ length orders) (mark : Mark)
+  module _ (same : book.participants ≡ map participant_in held.accounts) (some : 1 ≤ length orders) (mark : Mark)
       (date : ℕ) (dated : book.day.date ≡ Some date)
       (is : mark ≡ record {
         number = length book.marks + 1;
@@ -385,8 +385,8 @@ module _ (held : Held) (kept : IsKept held) (orders : List Order) (g : AreGreate
     any : is_empty (chosen book g.choice) ≡ false
     any = some_chosen count numbers book orders g kept.sound some
 
-    codes_are : accounts book ≡ map code_of held.accounts
-    unfolding accounts
+    codes_are : codes_of book ≡ map code_of held.accounts
+    unfolding codes_of
     codes_are = ap (map (λ (p : Participant). p.code)) same ∙ sym (codes-participants held.accounts)
 
     gains_are : (code : List ℕ) → int_sum_by (gain code) orders ≡ int_sum_by (gain code) (chosen book g.choice)

@@ -15,7 +15,7 @@ use Rattle.rtgs_book.specs.IntSum.{int_sum_by}
 use Rattle.rtgs_book.specs.Totals.{Within}
 use Rattle.rtgs_book.specs.declared.account.Account.{Account}
 use Rattle.rtgs_book.specs.declared.limits.TheConstants.{MOST_QUEUED, LARGEST_BALANCE}
-use Rattle.rtgs_records.specs.accounts.Accounts.{code_of, participant_of, after_order}
+use Rattle.rtgs_records.specs.accounts.Accounts.{code_of, participant_in, after_order}
 use Rattle.rtgs_ledger.specs.Resolving.{AreSmall, after_orders, moved_accounts}
 use Rattle.rtgs_book.specs.cores.Following.{AreBalanced}
 use Rattle.rtgs_lists.proofs.Lists.{all_weaker}
@@ -80,7 +80,7 @@ near_small = all_weaker (λ (a : Account). Within LARGEST_BALANCE a.balance)
 -- so it is in a sound book
 pub small_of : (book : Book) (xs : List Account) → AreBalanced book xs
     → AllByRecursion (λ code. Within LARGEST_BALANCE (balance book code))
-    (map (λ (p : Participant). p.code) (map participant_of xs)) → AreSmall xs
+    (map (λ (p : Participant). p.code) (map participant_in xs)) → AreSmall xs
 small_of book [] h small = tt
 small_of book (x ∷ xs) h small = (subst (Within LARGEST_BALANCE) (sym h.0) small.0, small_of book xs h.1 small.1)
 

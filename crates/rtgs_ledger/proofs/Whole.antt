@@ -31,7 +31,7 @@ use Rattle.rtgs_book.specs.declared.cores.cores.Core.{Core}
 use Rattle.rtgs_book.specs.cores.Cores.{account_of, core_of, IsCoreOf}
 use Rattle.rtgs_book.specs.cores.Following.{AreBalanced, core_after_row, core_after}
 use Rattle.rtgs_records.specs.declared.records.Records.{Records}
-use Rattle.rtgs_records.specs.accounts.Accounts.{AccountList, participant_of, with_account, with_balance, with_limit}
+use Rattle.rtgs_records.specs.accounts.Accounts.{AccountList, participant_in, with_account, with_balance, with_limit}
 use Rattle.rtgs_records.specs.Held as seen
 use Rattle.rtgs_ledger.specs.Kept as kept
 use Rattle.rtgs_records.specs.Records.{core_in, held_of as seen_of}
@@ -99,7 +99,7 @@ pub record Whole : Type 0 where
 
 abbrev pub book_of : Whole → Book
 book_of r = record {
-  participants = map participant_of r.accounts.accounts;
+  participants = map participant_in r.accounts.accounts;
   postings = r.postings;
   orders = r.orders;
   marks = r.marks;
@@ -118,7 +118,7 @@ whole book r = record {
   day = r.day;
 }
 
-own_participants : (book : Book) (ps : List Participant) → map participant_of (map (account_of book) ps) ≡ ps
+own_participants : (book : Book) (ps : List Participant) → map participant_in (map (account_of book) ps) ≡ ps
 own_participants book [] = refl
 own_participants book (p ∷ ps) = ap (λ qs. p ∷ qs) (own_participants book ps)
 
@@ -144,7 +144,7 @@ is_of_book book r held view is =
     let accounts : r.accounts.accounts ≡ map (account_of book) book.participants = ap (λ (c : Core). c.accounts) own in
     let day : r.day ≡ book.day = ap (λ (c : Core). c.day) own in
     let same : book_of (whole book r) ≡ book = λ i. record {
-      participants = (ap (map participant_of) accounts ∙ own_participants book book.participants) i;
+      participants = (ap (map participant_in) accounts ∙ own_participants book book.participants) i;
       postings = book.postings;
       orders = book.orders;
       marks = book.marks;

@@ -18,7 +18,7 @@ use Rattle.rtgs_book.specs.Balance.{balance}
 use Rattle.rtgs_book.specs.Books.{is_settled, is_waiting_state, is_settled_state, is_withdrawn_state}
 use Rattle.rtgs_book.specs.Changes.{Leads, balance_set}
 use Rattle.rtgs_book.specs.Commands.{withdraw, with_state, has_number}
-use Rattle.rtgs_book.specs.Lookup.{accounts, is_participant, order_named, is_order_named}
+use Rattle.rtgs_book.specs.Lookup.{codes_of, is_participant, order_named, is_order_named}
 use Rattle.rtgs_book.specs.Outcome.{first_of}
 use Rattle.rtgs_book.specs.Soundness.{OrdersAreNumbered}
 use Rattle.rtgs_book.specs.Step.{OwnStep}
@@ -123,7 +123,7 @@ module _ (held : Held) (kept : IsKept held) (law : BalanceAfterRestating) (numbe
     book = refl;
     balances = all_of (λ c. balance_set c (SetState o.number Withdrawn ∷ [])
         ≡ (if int_eq (balance held.content c) (balance new c) then None else Some (balance new c)))
-        (λ c. rw (← balance_same c, int_eq_self (balance held.content c)) refl) (accounts new);
+        (λ c. rw (← balance_same c, int_eq_self (balance held.content c)) refl) (codes_of new);
   }
 
   pub prepared_withdraw : is_participant held.content sender ≡ true

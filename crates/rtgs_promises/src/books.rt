@@ -12,7 +12,7 @@ ghost use Rattle.rtgs_book.specs.Books.{is_queued};
 ghost use Rattle.rtgs_book.specs.Calm.{IsCalm};
 ghost use Rattle.rtgs_book.specs.Choice.{IsGreatest, Choice, chosen};
 ghost use Rattle.rtgs_book.specs.Laws.{KeepsWhatIsFinal, NothingSettlesEarly};
-ghost use Rattle.rtgs_book.specs.Lookup.{accounts};
+ghost use Rattle.rtgs_book.specs.Lookup.{codes_of};
 ghost use Rattle.rtgs_book.specs.Outcome.{Reply, alone};
 ghost use Rattle.rtgs_book.specs.Queue.{queue};
 ghost use Rattle.rtgs_book.specs.Run.{Run, is_accepted, once};
@@ -79,7 +79,7 @@ pub fn each_resolution_settles_the_greatest_choice()
     ensures beginnings { (book : Book) (choice : Choice) (code : List ℕ) → IsSound book
         → filter (λ (o : Order). bytes_eq o.sender code) (chosen book choice) ≡ take (choice code) (queue book code) }
     ensures cover { (old new : Book) (command : Command) (reply : Reply) → IsSound old → Step old command reply new
-        → AllByRecursion (λ code. floor new code ≤ℤ balance new code) (accounts new) }
+        → AllByRecursion (λ code. floor new code ≤ℤ balance new code) (codes_of new) }
 {
     greatest_exists();
     greatest_is_unique();

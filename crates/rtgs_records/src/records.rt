@@ -8,7 +8,7 @@ ghost use Rattle.rtgs_book.specs.IntSum.{int_sum_by};
 ghost use Rattle.rtgs_records.specs.accounts.Accounts.{balance_of, code_of};
 ghost use Rattle.rtgs_book.specs.Balance.{floor_at};
 ghost use Rattle.rtgs_book.specs.Books.{is_closed, is_open, is_cut_off, is_empty};
-ghost use Rattle.rtgs_book.specs.Commands.{has_choice, is_date, is_later, order_numbered};
+ghost use Rattle.rtgs_book.specs.Commands.{is_automatic_as, is_date, is_later, order_numbered};
 ghost use Rattle.rtgs_book.specs.Queue.{queued_numbers};
 ghost use Rattle.rtgs_records.specs.Records.{held_of};
 ghost use Rattle.rtgs_records.specs.Held.{FindsRoom, after_row};
@@ -81,20 +81,20 @@ impl Records {
         matches!(self.day.phase, Phase::Closed)
     }
 
-    /// Whether the desk takes orders on the date of this day, which was opened with its choice.
+    /// Whether the desk takes orders on the date of this day, and is automatic as this day is.
     pub fn is_open_on(&self, new_day: &NewDay) -> bool
         ensures { result ≡ (is_open self.now.day.phase && is_date self.now.day.date new_day.now.date
-            && has_choice new_day.now.automatic self.now.day) }
+            && is_automatic_as new_day.now.automatic self.now.day) }
     {
         match self.open_date() {
-            Some(date) => date == new_day.date && self.has_choice(new_day.automatic),
+            Some(date) => date == new_day.date && self.is_automatic_as(new_day.automatic),
             None => false,
         }
     }
 
-    // Whether the day was opened with this choice.
-    fn has_choice(&self, automatic: bool) -> bool
-        ensures { result ≡ has_choice automatic self.now.day }
+    // Whether the day is automatic, or is not, as this says.
+    fn is_automatic_as(&self, automatic: bool) -> bool
+        ensures { result ≡ is_automatic_as automatic self.now.day }
     {
         if automatic {
             self.day.automatic

@@ -24,7 +24,7 @@ use Rattle.rtgs_book.specs.declared.order.Order.{Order}
 use Rattle.rtgs_book.specs.declared.change.RowChange.{RowChange}
 use Rattle.rtgs_book.specs.declared.change.RowChange.TheVariants.{AddParticipant, SetCredit, SetBalance}
 use Rattle.rtgs_book.specs.Changes.{with_row}
-use Rattle.rtgs_book.specs.Lookup.{accounts}
+use Rattle.rtgs_book.specs.Lookup.{codes_of}
 use Rattle.rtgs_book.specs.Soundness.{AreNumbered, IsSound}
 use Rattle.rtgs_rows.specs.Content.{Holding, Content, newcomer, with_credit_in, with_balance_in, with_change}
 use Rattle.rtgs_rows.specs.Content.{with_changes, Rise, IsInOrder, AreInOrder}
@@ -191,8 +191,8 @@ apart (x ∷ xs) h = (each x xs h.0, apart xs h.1)
     )
 
 codes_apart : (b : Book) (hs : List Holding) → IsPermutation (map (λ (h : Holding). h.participant) hs) b.participants
-    → IsStrictlySortedBy (slice_cmp nat_cmp) (accounts b) → Differ hs
-unfolding accounts
+    → IsStrictlySortedBy (slice_cmp nat_cmp) (codes_of b) → Differ hs
+unfolding codes_of
 codes_apart b hs same sorted =
     let distinct = same_test (eq_by_cmp (slice_cmp nat_cmp)) bytes_eq is_eq-slice_cmp
     (map (λ (p : Participant). p.code) b.participants) (IsDistinct-from_sorted (slice_cmp nat_cmp) _ sorted) in

@@ -14,7 +14,7 @@ use Rattle.rtgs_book.specs.declared.participant.Participant.{Participant}
 use Rattle.rtgs_book.specs.declared.change.RowChange.{RowChange}
 use Rattle.rtgs_book.specs.declared.change.RowChange.TheVariants.{AddParticipant, SetCredit, SetBalance}
 use Rattle.rtgs_book.specs.Balance.{balance}
-use Rattle.rtgs_book.specs.Lookup.{accounts}
+use Rattle.rtgs_book.specs.Lookup.{codes_of}
 use Rattle.rtgs_book.specs.Changes.{balance_set, or_else, SetsBalances, StartsEmpty}
 use Rattle.rtgs_rows.specs.Content.{Holding, Content, newcomer, with_credit_in, with_balance_in, with_change}
 use Rattle.rtgs_rows.specs.Content.{with_changes}
@@ -130,7 +130,7 @@ pub balances_after : (old new : Book) (c : Content) (rows : List RowChange) → 
     → AllByRecursion (λ (h : Holding). h.balance ≡ balance old h.participant.code) c.holdings
     → SetsBalances old rows new → AllByRecursion (StartsEmpty new rows) rows
     → AllByRecursion (λ (h : Holding). h.balance ≡ balance new h.participant.code) ((with_changes c rows).holdings)
-unfolding accounts
+unfolding codes_of
 balances_after old new c rows are stored sets added =
     let P = λ (code : List ℕ). balance_set code rows ≡ cond (int_eq (balance old code) (balance new code)) None
     (Some (balance new code)) in

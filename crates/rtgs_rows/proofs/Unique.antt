@@ -28,7 +28,7 @@ use Rattle.rtgs_book.specs.declared.order.Order.{Order}
 use Rattle.rtgs_book.specs.declared.mark.Mark.{Mark}
 use Rattle.rtgs_book.specs.declared.order_state.OrderState.{OrderState}
 use Rattle.rtgs_book.specs.declared.order_state.OrderState.TheVariants.{Queued, Held, Settled, Withdrawn, Rejected}
-use Rattle.rtgs_book.specs.Lookup.{accounts}
+use Rattle.rtgs_book.specs.Lookup.{codes_of}
 use Rattle.rtgs_book.specs.Soundness.{CodesRise}
 use Rattle.rtgs_rows.specs.declared.numbers.TheConstants.{VERSION}
 use Rattle.rtgs_rows.specs.Rows.{date_value, phase_number, state_number, mark_value, day_row, posting_row, order_row}
@@ -309,7 +309,7 @@ strict_codes [] h = tt
 strict_codes (x ∷ xs) h = (h.0, strict_codes xs h.1)
 
 pub rising : (b : Book) → CodesRise b → IsAscending (λ (p q : Participant). by_code p q ≡ Less) b.participants
-unfolding accounts
+unfolding codes_of
 rising b rise = ascending_from_map (λ (x y : List ℕ). slice_cmp nat_cmp x y ≡ Less) (λ (p : Participant). p.code)
     b.participants (strict_codes _ rise.0)
 

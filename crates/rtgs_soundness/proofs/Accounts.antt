@@ -14,7 +14,7 @@ use Rattle.rtgs_book.specs.declared.participant.Participant.{Participant}
 use Rattle.rtgs_book.specs.declared.limits.TheConstants.{LARGEST_BALANCE}
 use Rattle.rtgs_book.specs.Balance.{balance}
 use Rattle.rtgs_book.specs.Laws.{BalancesFit}
-use Rattle.rtgs_book.specs.Lookup.{accounts}
+use Rattle.rtgs_book.specs.Lookup.{codes_of}
 use Rattle.rtgs_book.specs.Totals.{Totals, Within}
 use Rattle.rtgs_book.specs.cores.Cores.{account_of}
 
@@ -48,15 +48,15 @@ all_codes_at P [] i d lt h = absurd (omega arith)
 all_codes_at P (p ∷ ps) zero d lt h = h.0
 all_codes_at P (p ∷ ps) (suc i) d lt h = all_codes_at P ps i d (omega arith) h.1
 
-module _ (book : Book) (balances : BTreeMap (List ℕ) ℤ) (totals : Totals (slice_cmp nat_cmp) (accounts book)
+module _ (book : Book) (balances : BTreeMap (List ℕ) ℤ) (totals : Totals (slice_cmp nat_cmp) (codes_of book)
     (balance book) balances) (i : ℕ) (d : Participant) (within : i < length book.participants) where
   there : get (slice_cmp nat_cmp) balances (code_at book.participants i d)
       ≡ Some (balance book (code_at book.participants i d))
-  unfolding accounts
+  unfolding codes_of
   there = rw (totals (code_at book.participants i d), member_at book.participants i d within) refl
 
   there_fits : BalancesFit book → Within LARGEST_BALANCE (balance book (code_at book.participants i d))
-  unfolding accounts
+  unfolding codes_of
   there_fits small = all_codes_at (λ c. Within LARGEST_BALANCE (balance book c)) book.participants i d within
       small
 

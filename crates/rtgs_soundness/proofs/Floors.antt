@@ -6,7 +6,7 @@ use Rattle.std.specs.List.{AllByRecursion}
 use Rattle.std.specs.List.Sorted.{IsStrictlySortedBy}
 use Rattle.rtgs_book.specs.declared.book.Book.{Book}
 use Rattle.rtgs_book.specs.declared.participant.Participant.{Participant}
-use Rattle.rtgs_book.specs.Lookup.{has_code, participant_of, credit_of, accounts}
+use Rattle.rtgs_book.specs.Lookup.{has_code, participant_of, credit_of, codes_of}
 use Rattle.rtgs_book.specs.Balance.{balance, floor, floor_at}
 use Rattle.rtgs_book.specs.Soundness.{CodesRise, FloorsHold}
 use Rattle.rtgs_lists.proofs.Codes.{later_differs}
@@ -32,7 +32,7 @@ own_credit (p ∷ ps) h = (
 pub floors_of : (book : Book) → CodesRise book → (b : Bool) → (b ≡ true) ↔ AllByRecursion
     (λ (p : Participant). floor_at book.day.phase p.credit ≤ℤ balance book p.code) book.participants
     → (b ≡ true) ↔ FloorsHold book
-unfolding accounts floor credit_of participant_of
+unfolding codes_of floor credit_of participant_of
 floors_of book codes b h =
     let own = own_credit book.participants codes.0 in (
       λ e. all_map (λ code. floor book code ≤ℤ balance book code) (λ (p : Participant). p.code) book.participants

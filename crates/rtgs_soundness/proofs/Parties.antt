@@ -8,7 +8,7 @@ use Rattle.std.specs.Str.{bytes_eq}
 use Rattle.rtgs_book.specs.declared.book.Book.{Book}
 use Rattle.rtgs_book.specs.declared.order.Order.{Order}
 use Rattle.rtgs_book.specs.declared.posting.Posting.{Posting}
-use Rattle.rtgs_book.specs.Lookup.{accounts, is_participant}
+use Rattle.rtgs_book.specs.Lookup.{codes_of, is_participant}
 use Rattle.rtgs_book.specs.Soundness.{has_parties, PartiesAreKnown}
 use Rattle.rtgs_soundness.proofs.Names.{same_text}
 use Rattle.rtgs_lists.proofs.Bools.{and_left, and_right}
@@ -35,13 +35,13 @@ pub both_true : (a b : Bool) {P Q : Type 0} → (a ≡ true) ↔ P → (b ≡ tr
 both_true true b h k = (λ e. (h.0 refl, k.0 e), λ x. k.1 x.1)
 both_true false b h k = (λ e. absurd (true≢false (sym e)), λ x. absurd (true≢false (sym (h.1 x.0))))
 
-pub knows : (book : Book) (codes : List (List ℕ)) (set : BTreeSet (List ℕ)) → codes ≡ accounts book
+pub knows : (book : Book) (codes : List (List ℕ)) (set : BTreeSet (List ℕ)) → codes ≡ codes_of book
     → IsFromIterResult (slice_cmp nat_cmp) codes set → (code : List ℕ)
     → contains (slice_cmp nat_cmp) set code ≡ is_participant book code
 unfolding is_participant
 knows book codes set same h code = h.0 code ∙ (λ i. list_any (same_text i code) (same i))
 
-pub parties_of : (book : Book) (codes : List (List ℕ)) (set : BTreeSet (List ℕ)) (b : Bool) → codes ≡ accounts book
+pub parties_of : (book : Book) (codes : List (List ℕ)) (set : BTreeSet (List ℕ)) (b : Bool) → codes ≡ codes_of book
     → IsFromIterResult (slice_cmp nat_cmp) codes set
     → b ≡ (list_all (λ (o : Order). contains (slice_cmp nat_cmp) set o.sender && contains (slice_cmp nat_cmp) set
     o.receiver && not (bytes_eq o.sender o.receiver)) book.orders && list_all

@@ -9,7 +9,7 @@ use Rattle.rtgs_book.specs.declared.book.Book.{Book}
 use Rattle.rtgs_book.specs.declared.participant.Participant.{Participant}
 use Rattle.rtgs_book.specs.declared.order.Order.{Order}
 use Rattle.rtgs_book.specs.Books.{is_closed, is_queued}
-use Rattle.rtgs_book.specs.Lookup.{accounts}
+use Rattle.rtgs_book.specs.Lookup.{codes_of}
 use Rattle.rtgs_book.specs.Queue.{waiting}
 use Rattle.rtgs_book.specs.Settle.{today}
 use Rattle.rtgs_book.specs.Soundness.{QueuesFit}
@@ -66,7 +66,7 @@ length_short n h = omega (arith, ints)
 pub queues_of : (book : Book) (b : Bool) → AllByRecursion (λ (p : Participant). pos (length (waiting book p.code))
     ≤ℤ pos LONGEST_QUEUE) book.participants → b ≡ list_all (is_queued_on (not (is_closed book.day.phase)) (today book))
     book.orders → (b ≡ true) ↔ QueuesFit book
-unfolding accounts
+unfolding codes_of
 queues_of book b short is = (
   λ e. let on = all_on (not (is_closed book.day.phase)) (today book) book.orders (sym is ∙ e) in
       record {
@@ -83,7 +83,7 @@ queues_of book b short is = (
 
 pub long_queue : (book : Book) → QueuesFit book → AllByRecursion
     (λ (p : Participant). pos (length (waiting book p.code)) ≤ℤ pos LONGEST_QUEUE) book.participants
-unfolding accounts
+unfolding codes_of
 long_queue book fit = all_weaker (λ (p : Participant). length (waiting book p.code) ≤ LONGEST_QUEUE)
     (λ (p : Participant). pos (length (waiting book p.code)) ≤ℤ pos LONGEST_QUEUE) (λ p h. length_short _ h)
     book.participants (all_unmap (λ code. length (waiting book code) ≤ LONGEST_QUEUE) (λ (p : Participant). p.code)

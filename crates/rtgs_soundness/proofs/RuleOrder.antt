@@ -161,7 +161,7 @@ sound_from_rules book count past kept = record {
   dates = kept Dates (omega arith);
   floors = kept Floors (omega arith);
   total_fits = kept Total (omega arith);
-  choice_fits = kept AutomaticDay (omega arith);
+  automatic_fits = kept AutomaticDay (omega arith);
 }
 
 -- the total by what was issued

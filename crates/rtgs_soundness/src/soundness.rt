@@ -3,14 +3,14 @@ ghost use Rattle.std.specs.Prelude.{◌≡◌, ◌≢◌, ◌↔◌, Err, IfOk, 
 ghost use Rattle.std.specs.Cmp.Lexicographic.{slice_cmp};
 ghost use Rattle.std.specs.Ordering.{nat_cmp};
 ghost use Rattle.rtgs_book.specs.Balance.{balance};
-ghost use Rattle.rtgs_book.specs.Lookup.{accounts};
+ghost use Rattle.rtgs_book.specs.Lookup.{codes_of};
 ghost use Rattle.rtgs_book.specs.Totals.{Totals};
 ghost use Rattle.rtgs_book.specs.Judgement.{Keeps, KeepsBefore, Explains};
 ghost use Rattle.rtgs_book.specs.Ranges.{Fits};
 ghost use Rattle.rtgs_book.specs.Soundness.{IsSound, OrdersAreNumbered, PostingsAreNumbered};
 
 use crate::rules::balances::{balances as summed, floors_hold, is_issue_small};
-use crate::rules::dates::{choice_fits, dates_fit};
+use crate::rules::dates::{automatic_fits, dates_fit};
 use crate::rules::marks::marks_fit;
 use crate::rules::names::{
     codes_rise, keys_are_distinct, order_references_are_distinct, posting_references_are_distinct,
@@ -62,7 +62,7 @@ pub fn check(book: &Book) -> Result<(), Fault>
 pub fn balances(book: &Book) -> Result<BTreeMap<Code, i128>, AllocError>
     requires postings { PostingsAreNumbered book.now }
     requires orders { OrdersAreNumbered book.now }
-    ensures { IfOk result (Totals (slice_cmp nat_cmp) (accounts book.now) (balance book.now)) }
+    ensures { IfOk result (Totals (slice_cmp nat_cmp) (codes_of book.now) (balance book.now)) }
 {
     summed(book.orders.allocator(), book)
 }
@@ -93,7 +93,7 @@ fn keeps(book: &Book, rule: Rule) -> Result<bool, AllocError>
         Rule::Dates => Ok(dates_fit(book)),
         Rule::Floors => floors_hold(alloc, book),
         Rule::Total => Ok(is_issue_small(postings)),
-        Rule::AutomaticDay => Ok(choice_fits(&book.day)),
+        Rule::AutomaticDay => Ok(automatic_fits(&book.day)),
         Rule::StoredBalances => Ok(true),
         // It is none of a book's.
         Rule::Calm => Ok(false),

@@ -15,7 +15,7 @@ use Rattle.std.proofs.Math.Bool.{or-true}
 use Rattle.sqlite_keyed.proofs.ListLemmas.{all_weaker, map-map}
 use Rattle.rtgs_book.specs.declared.book.Book.{Book}
 use Rattle.rtgs_book.specs.Balance.{balance}
-use Rattle.rtgs_book.specs.Lookup.{accounts}
+use Rattle.rtgs_book.specs.Lookup.{codes_of}
 use Rattle.rtgs_book.specs.Totals.{Totals}
 use Rattle.rtgs_book.specs.declared.participant.Participant.{Participant}
 use Rattle.rtgs_book.specs.declared.fault.Fault.{Fault}
@@ -131,9 +131,9 @@ module _ (sum_of : List ℕ → ℤ) (keys : List (List ℕ)) (sums : BTreeMap (
 
 pub stored_agree : (book : Book) (all : List Account) (sums : BTreeMap (List ℕ) ℤ)
     → book.participants ≡ map (λ (a : Account). a.participant) all
-    → Totals (slice_cmp nat_cmp) (accounts book) (balance book) sums
+    → Totals (slice_cmp nat_cmp) (codes_of book) (balance book) sums
     → (list_all (is_stored sums) all ≡ true) ↔ AreBalances book all
-unfolding accounts
+unfolding codes_of
 stored_agree book all sums same totals =
     let codes : map (λ (p : Participant). p.code) book.participants
     ≡ map code_of all = ap (map (λ (p : Participant). p.code)) same
@@ -159,7 +159,7 @@ keeps_sound book sound Dates low = sound.dates
 keeps_sound book sound Floors low = sound.floors
 keeps_sound book sound Total low = sound.total_fits
 keeps_sound book sound StoredBalances low = tt
-keeps_sound book sound AutomaticDay low = sound.choice_fits
+keeps_sound book sound AutomaticDay low = sound.automatic_fits
 keeps_sound book sound Calm low = absurd (omega (arith, low))
 
 -- where a book keeps those before a rule, it keeps those before an earlier one

@@ -11,7 +11,7 @@ use Rattle.rtgs_book.specs.declared.order.Order.{Order}
 use Rattle.rtgs_book.specs.declared.posting.Posting.{Posting}
 use Rattle.rtgs_book.specs.Books.{is_settled}
 use Rattle.rtgs_book.specs.IntSum.{int_sum_by}
-use Rattle.rtgs_book.specs.Lookup.{accounts, is_participant}
+use Rattle.rtgs_book.specs.Lookup.{codes_of, is_participant}
 use Rattle.rtgs_book.specs.Soundness.{CodesRise, PartiesAreKnown, has_parties}
 use Rattle.rtgs_statements.specs.declared.party.Party.{Party}
 use Rattle.rtgs_statements.specs.declared.party.Party.TheVariants.{Sender, Receiver}
@@ -75,21 +75,21 @@ second true false c h = absurd (grind arith)
 second false b c h = absurd (grind arith)
 
 party_known : (book : Book) (party : Party) (order : Order) → IsTrue (has_parties book order)
-    → list_any (bytes_eq (party_code party order)) (accounts book) ≡ true
+    → list_any (bytes_eq (party_code party order)) (codes_of book) ≡ true
 unfolding is_participant
 party_known book Sender order h = first _ _ _ h
 party_known book Receiver order h = second _ _ _ h
 
 settled_of_all : (book : Book) (date : ℕ) (party : Party) → CodesRise book → PartiesAreKnown book
-    → int_sum_by (λ code. settled_for party code (orders_on date book.orders)) (accounts book)
+    → int_sum_by (λ code. settled_for party code (orders_on date book.orders)) (codes_of book)
     ≡ int_sum_by amount_of (filter is_settled (orders_on date book.orders))
 settled_of_all book date party rise known =
-    all_codes amount_of is_settled (party_code party) (accounts book) rise.0 (orders_on date book.orders)
+    all_codes amount_of is_settled (party_code party) (codes_of book) rise.0 (orders_on date book.orders)
     (all_left _ _ (is_ordered_on date) (λ order h. party_known book party order h) book.orders known.0)
 
 pub sent_as_received : (book : Book) (date : ℕ) → CodesRise book → PartiesAreKnown book
-    → int_sum_by (λ code. sent code (orders_on date book.orders)) (accounts book)
-    ≡ int_sum_by (λ code. received code (orders_on date book.orders)) (accounts book)
+    → int_sum_by (λ code. sent code (orders_on date book.orders)) (codes_of book)
+    ≡ int_sum_by (λ code. received code (orders_on date book.orders)) (codes_of book)
 sent_as_received book date rise known = settled_of_all book date Sender rise known
     ∙ sym (settled_of_all book date Receiver rise known)
 
@@ -98,23 +98,23 @@ kept [] = refl
 kept (x ∷ xs) = ap (λ t. x ∷ t) (kept xs)
 
 posted_of_all : (book : Book) (date : ℕ) → CodesRise book → PartiesAreKnown book
-    → int_sum_by (λ code. posted code (postings_on date book.postings)) (accounts book)
+    → int_sum_by (λ code. posted code (postings_on date book.postings)) (codes_of book)
     ≡ int_sum_by cents_of (postings_on date book.postings)
 unfolding is_participant
 posted_of_all book date rise known =
-    all_codes cents_of (λ posting. true) (λ (posting : Posting). posting.code) (accounts book) rise.0
+    all_codes cents_of (λ posting. true) (λ (posting : Posting). posting.code) (codes_of book) rise.0
     (postings_on date book.postings) (all_left _ _ (is_posted_on date) (λ posting h. h) book.postings known.1)
     ∙ ap (int_sum_by cents_of) (kept (postings_on date book.postings))
 
 pub net_as_posted : (book : Book) (date : ℕ) → CodesRise book → PartiesAreKnown book
     → int_sum_by (λ code. net (sums_of code (postings_on date book.postings) (orders_on date book.orders)))
-    (accounts book) ≡ int_sum_by cents_of (postings_on date book.postings)
+    (codes_of book) ≡ int_sum_by cents_of (postings_on date book.postings)
 net_as_posted book date rise known =
     let one = int_sum_by-both (λ code. posted code (postings_on date book.postings) -ℤ sent code (orders_on date
     book.orders))
-    (λ code. received code (orders_on date book.orders)) (accounts book) in
+    (λ code. received code (orders_on date book.orders)) (codes_of book) in
     let two = int_sum_by-less (λ code. posted code (postings_on date book.postings))
-    (λ code. sent code (orders_on date book.orders)) (accounts book) in
+    (λ code. sent code (orders_on date book.orders)) (codes_of book) in
     let same = sent_as_received book date rise known in
     let all = posted_of_all book date rise known in
     omega (arith, ints)

@@ -6,7 +6,7 @@ use Rattle.rtgs_book.specs.declared.order.Order.{Order}
 use Rattle.rtgs_book.specs.declared.mark.Mark.{Mark}
 use Rattle.rtgs_statements.specs.declared.line.Line.{Line}
 use Rattle.rtgs_statements.specs.declared.line.Line.TheVariants.{ReportOf, Marks, Record, StatementOf}
-use Rattle.rtgs_book.specs.Lookup.{accounts}
+use Rattle.rtgs_book.specs.Lookup.{codes_of}
 use Rattle.rtgs_statements.specs.Lines.{row_of_posting, row_of_order}
 use Rattle.rtgs_statements.specs.Records.{postings_on, orders_on, marks_on, postings_on_statement, orders_on_statement}
 use Rattle.rtgs_statements.specs.Sums.{sums_of}
@@ -27,7 +27,7 @@ pub report-has_bytes : (book : Book) (date : ℕ) → 0 < length (report book da
 unfolding report_text
 report-has_bytes book date =
     lines-have_bytes (ReportOf date) ((map (account_line (postings_on date book.postings) (orders_on date book.orders))
-    (accounts book) ++ map (orders_line (orders_on date book.orders)) reported_standings)
+    (codes_of book) ++ map (orders_line (orders_on date book.orders)) reported_standings)
     ++ (Marks (length (marks_on date book.marks)) ∷ []))
 
 pub statement-has_bytes : (book : Book) (code : List ℕ) (date : ℕ) → 0 < length (statement book code date)

@@ -4,7 +4,7 @@ use Rattle.std.specs.BTreeMap.{BTreeMap}
 use Rattle.rtgs_book.specs.declared.book.Book.{Book}
 use Rattle.rtgs_book.specs.declared.order.Order.{Order}
 use Rattle.rtgs_book.specs.declared.standing.Standing.{Standing}
-use Rattle.rtgs_book.specs.Lookup.{accounts}
+use Rattle.rtgs_book.specs.Lookup.{codes_of}
 use Rattle.rtgs_statements.specs.declared.day_sums.DaySums.{DaySums}
 use Rattle.rtgs_statements.specs.declared.ordered.Ordered.{Ordered}
 use Rattle.rtgs_statements.specs.declared.line.Line.TheVariants.{Orders}
@@ -58,7 +58,7 @@ pub record GathersOrders (ordered : Ordered) (orders : List Order) : Type 0 wher
 
 -- the codes of the book, and what its records of the date come to
 pub record IsDayOf (day : DaySums) (book : Book) (date : ℕ) : Type 0 where
-  pub codes : day.codes.items ≡ accounts book
+  pub codes : day.codes.items ≡ codes_of book
   pub posted : (code : List ℕ) → sum_at day.posted code ≡ posted code (postings_on date book.postings)
   pub ordered : GathersOrders day.ordered (orders_on date book.orders)
   pub marks : day.marks ≡ length (marks_on date book.marks)

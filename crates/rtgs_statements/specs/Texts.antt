@@ -7,7 +7,7 @@ use Rattle.rtgs_book.specs.declared.posting.Posting.{Posting}
 use Rattle.rtgs_book.specs.declared.order.Order.{Order}
 use Rattle.rtgs_book.specs.declared.mark.Mark.{Mark}
 use Rattle.rtgs_book.specs.IntSum.{int_sum_by}
-use Rattle.rtgs_book.specs.Lookup.{accounts}
+use Rattle.rtgs_book.specs.Lookup.{codes_of}
 use Rattle.rtgs_book.specs.Standings.{stands, word_of}
 use Rattle.rtgs_statements.specs.declared.line.Line.{Line}
 use Rattle.rtgs_statements.specs.declared.line.Line.TheVariants.{StatementOf, Record, Sum, ReportOf, Account, Orders}
@@ -106,5 +106,5 @@ report_text date codes postings orders marks = text_of (report_lines date codes 
 
 -- the report of the day with this date
 abbrev pub report : Book → ℕ → List ℕ
-report book date = report_text date (accounts book) (postings_on date book.postings) (orders_on date book.orders)
+report book date = report_text date (codes_of book) (postings_on date book.postings) (orders_on date book.orders)
     (marks_on date book.marks)

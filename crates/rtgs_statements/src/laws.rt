@@ -7,7 +7,7 @@ ghost use Rattle.rtgs_book.specs.declared.book.Book.{Book};
 ghost use Rattle.rtgs_book.specs.declared.order.Order.{Order};
 ghost use Rattle.rtgs_book.specs.declared.posting.Posting.{Posting};
 ghost use Rattle.rtgs_book.specs.IntSum.{int_sum_by};
-ghost use Rattle.rtgs_book.specs.Lookup.{accounts};
+ghost use Rattle.rtgs_book.specs.Lookup.{codes_of};
 ghost use Rattle.rtgs_book.specs.Soundness.{CodesRise, PartiesAreKnown};
 ghost use Rattle.rtgs_statements.specs.declared.line.Line.{Line};
 ghost use Rattle.rtgs_statements.specs.declared.total.Total.{Total};
@@ -26,15 +26,15 @@ pub fn statement_and_report_agree()
 /// Where all parties are participants, what they sent on a date is together what they received on it.
 pub fn sent_is_received()
     ensures { (book : Book) (date : ℕ) → CodesRise book → PartiesAreKnown book
-        → int_sum_by (λ code. sent code (orders_on date book.orders)) (accounts book)
-        ≡ int_sum_by (λ code. received code (orders_on date book.orders)) (accounts book) }
+        → int_sum_by (λ code. sent code (orders_on date book.orders)) (codes_of book)
+        ≡ int_sum_by (λ code. received code (orders_on date book.orders)) (codes_of book) }
 {}
 
 /// And what the records of a date leave to them is together what was posted on it.
 pub fn net_is_posted()
     ensures { (book : Book) (date : ℕ) → CodesRise book → PartiesAreKnown book
         → int_sum_by (λ code. net (sums_of code (postings_on date book.postings) (orders_on date book.orders)))
-        (accounts book) ≡ int_sum_by cents_of (postings_on date book.postings) }
+        (codes_of book) ≡ int_sum_by cents_of (postings_on date book.postings) }
 {}
 
 /// Each row of a statement has 77 characters and a line feed, where numbers are at most `LARGEST_NUMBER`.

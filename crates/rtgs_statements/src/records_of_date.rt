@@ -1,7 +1,7 @@
 //! What the records of a date come to, summed as they are read.
 ghost use Rattle.std.specs.Prelude.{◌≡◌, ℕ, List, IfOk, length};
 ghost use Rattle.rtgs_book.specs.declared.book.Book.{Book};
-ghost use Rattle.rtgs_book.specs.Lookup.{accounts};
+ghost use Rattle.rtgs_book.specs.Lookup.{codes_of};
 ghost use Rattle.rtgs_statements.specs.Days.{GathersOrders};
 ghost use Rattle.rtgs_statements.specs.Reads.{LeavesRead, refused_by};
 ghost use Rattle.rtgs_statements.specs.Records.{postings_on, orders_on, marks_on};
@@ -96,7 +96,7 @@ pub fn marks_on<S: Source>(source: &mut S, date: BusinessDate) -> Result<usize, 
 
 /// The participants' codes in their order.
 pub fn codes_of<S: Source>(alloc: Global, source: &S) -> Result<Vec<Code>, AllocError>
-    ensures { (book : Book) → S.holds source.now book → IfOk result (λ codes. codes.items ≡ accounts book) }
+    ensures { (book : Book) → S.holds source.now book → IfOk result (λ codes. codes.items ≡ codes_of book) }
 {
     source.reads_a_sound_book();
     let mut codes = Vec::new(alloc);

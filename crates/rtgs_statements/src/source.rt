@@ -1,7 +1,7 @@
 //! What texts are read from.
 ghost use Rattle.std.specs.Prelude.{◌≡◌, Bool, true, Err, IfOk, slice_get};
 ghost use Rattle.rtgs_book.specs.declared.book.Book.{Book};
-ghost use Rattle.rtgs_book.specs.Lookup.{accounts};
+ghost use Rattle.rtgs_book.specs.Lookup.{codes_of};
 ghost use Rattle.rtgs_book.specs.Soundness.{IsSound};
 ghost use Rattle.rtgs_book.specs.cores.Nexts.{posting_after, order_after, mark_after};
 ghost use Rattle.rtgs_statements.specs.Reads.{LeavesRead, refused_by};
@@ -46,7 +46,7 @@ pub trait Source {
 
     /// The code of the participant at this place, from 0 on, in the order of the codes; past the last there is none.
     fn code_at(&self, index: usize) -> Option<Code>
-        ensures { (book : Book) → holds self.now book → result ≡ slice_get (accounts book) index };
+        ensures { (book : Book) → holds self.now book → result ≡ slice_get (codes_of book) index };
 
     /// The book is a sound one. Does nothing.
     fn reads_a_sound_book(&self)

@@ -17,7 +17,7 @@ use Rattle.rtgs_book.specs.declared.day.Day.{Day}
 use Rattle.rtgs_book.specs.Books.{new_book}
 use Rattle.rtgs_book.specs.Balance.{balance}
 use Rattle.rtgs_book.specs.declared.participant.Participant.{Participant}
-use Rattle.rtgs_book.specs.Lookup.{accounts}
+use Rattle.rtgs_book.specs.Lookup.{codes_of}
 use Rattle.rtgs_book.specs.Soundness.{CodesRise, FitsDue}
 use Rattle.rtgs_book.specs.Settle.{today}
 use Rattle.rtgs_book.specs.declared.order.Order.{Order}
@@ -49,7 +49,7 @@ strict_codes (x ∷ xs) sorted = (sorted.0, strict_codes xs sorted.1)
 
 in_order_of_codes : (book : Book) → CodesRise book → IsAscending
     (λ (p q : Participant). slice_cmp nat_cmp p.code q.code ≡ Less) book.participants
-unfolding accounts
+unfolding codes_of
 in_order_of_codes book rise = ascending_from_map (λ (x y : List ℕ). slice_cmp nat_cmp x y ≡ Less)
     (λ (p : Participant). p.code) book.participants (strict_codes _ rise.0)
 

@@ -36,7 +36,7 @@ keeps_all book sound Dates other = sound.dates
 keeps_all book sound Floors other = sound.floors
 keeps_all book sound Total other = sound.total_fits
 keeps_all book sound StoredBalances other = tt
-keeps_all book sound AutomaticDay other = sound.choice_fits
+keeps_all book sound AutomaticDay other = sound.automatic_fits
 keeps_all book sound Calm other = absurd (other refl)
 
 -- where no rule is broken, the store failed or memory was refused

@@ -23,7 +23,7 @@ use Rattle.rtgs_book.specs.Settle.{altered, restated}
 use Rattle.rtgs_book.specs.Soundness.{IsSound}
 use Rattle.rtgs_book.specs.declared.cores.cores.Core.{Core}
 use Rattle.rtgs_book.specs.cores.Cores.{account_of, core_of, IsCoreOf}
-use Rattle.rtgs_book.specs.cores.Following.{participant_of, code_of, is_of, with_account, with_balance, with_limit}
+use Rattle.rtgs_book.specs.cores.Following.{participant_in, code_of, is_of, with_account, with_balance, with_limit}
 use Rattle.rtgs_book.specs.cores.Following.{limited}
 use Rattle.rtgs_book.specs.cores.Following.{AreBalanced, core_after_row, core_after, WaitsNoMore}
 use Rattle.rtgs_lists.proofs.Bools.{and_left}
@@ -31,7 +31,7 @@ use Rattle.rtgs_lists.proofs.Filters.{map-filter}
 
 -- the core agrees with the book in all but balances
 record Agrees (book : Book) (core : Core) : Type 0 where
-  pub participants : map participant_of core.accounts ≡ book.participants
+  pub participants : map participant_in core.accounts ≡ book.participants
   pub waiting : core.waiting ≡ filter is_waiting book.orders
   pub day : core.day ≡ book.day
   pub postings : core.next_posting ≡ length book.postings + 1
@@ -54,34 +54,34 @@ longer xs x n e = ap (λ k. k + 1) (e ∙ sym (length-append xs (x ∷ [])))
 
 -- ---- participants
 
-put_in : (new : Account) (xs : List Account) → map participant_of (with_account new xs)
-    ≡ filter (λ p. is_before p.code (code_of new)) (map participant_of xs) ++ participant_of new
-    ∷ filter (λ p. not (is_before p.code (code_of new))) (map participant_of xs)
-put_in new xs = map-append participant_of (filter (λ a. is_before (code_of a) (code_of new)) xs)
+put_in : (new : Account) (xs : List Account) → map participant_in (with_account new xs)
+    ≡ filter (λ p. is_before p.code (code_of new)) (map participant_in xs) ++ participant_in new
+    ∷ filter (λ p. not (is_before p.code (code_of new))) (map participant_in xs)
+put_in new xs = map-append participant_in (filter (λ a. is_before (code_of a) (code_of new)) xs)
     (new ∷ filter (λ a. not (is_before (code_of a) (code_of new))) xs)
-    ∙ (λ i. map-filter participant_of (λ (p : Participant). is_before p.code (code_of new)) xs i ++ participant_of new
-    ∷ map-filter participant_of (λ (p : Participant). not (is_before p.code (code_of new))) xs i)
+    ∙ (λ i. map-filter participant_in (λ (p : Participant). is_before p.code (code_of new)) xs i ++ participant_in new
+    ∷ map-filter participant_in (λ (p : Participant). not (is_before p.code (code_of new))) xs i)
 
-limited_one : (code : List ℕ) (credit : ℕ) (a : Account) → participant_of (limited code credit a)
-    ≡ (if has_code code (participant_of a) then record (participant_of a) { credit = credit } else participant_of a)
+limited_one : (code : List ℕ) (credit : ℕ) (a : Account) → participant_in (limited code credit a)
+    ≡ (if has_code code (participant_in a) then record (participant_in a) { credit = credit } else participant_in a)
 limited_one code credit a = by (is_of code a)
   where
-    by : (b : Bool) → participant_of (cond b (record a { participant = record a.participant { credit = credit } }) a)
-        ≡ cond b (record (participant_of a) { credit = credit }) (participant_of a)
+    by : (b : Bool) → participant_in (cond b (record a { participant = record a.participant { credit = credit } }) a)
+        ≡ cond b (record (participant_in a) { credit = credit }) (participant_in a)
     by true = refl
     by false = refl
 
-limited_all : (code : List ℕ) (credit : ℕ) (xs : List Account) → map participant_of (with_limit code credit xs)
-    ≡ map (λ (p : Participant). if has_code code p then record p { credit = credit } else p) (map participant_of xs)
+limited_all : (code : List ℕ) (credit : ℕ) (xs : List Account) → map participant_in (with_limit code credit xs)
+    ≡ map (λ (p : Participant). if has_code code p then record p { credit = credit } else p) (map participant_in xs)
 limited_all code credit [] = refl
 limited_all code credit (x ∷ xs) = λ i. limited_one code credit x i ∷ limited_all code credit xs i
 
-rebalanced_all : (code : List ℕ) (z : ℤ) (xs : List Account) → map participant_of (with_balance code z xs)
-    ≡ map participant_of xs
+rebalanced_all : (code : List ℕ) (z : ℤ) (xs : List Account) → map participant_in (with_balance code z xs)
+    ≡ map participant_in xs
 rebalanced_all code z [] = refl
 rebalanced_all code z (x ∷ xs) = λ i. by (is_of code x) i ∷ rebalanced_all code z xs i
   where
-    by : (b : Bool) → participant_of (cond b (record x { balance = z }) x) ≡ participant_of x
+    by : (b : Bool) → participant_in (cond b (record x { balance = z }) x) ≡ participant_in x
     by true = refl
     by false = refl
 
@@ -238,7 +238,7 @@ all_rows book core (row ∷ rows) none a =
 
 -- ---- and the balances
 
-own_participants : (book : Book) (ps : List Participant) → map participant_of (map (account_of book) ps) ≡ ps
+own_participants : (book : Book) (ps : List Participant) → map participant_in (map (account_of book) ps) ≡ ps
 own_participants book [] = refl
 own_participants book (p ∷ ps) = ap (λ qs. p ∷ qs) (own_participants book ps)
 
@@ -254,7 +254,7 @@ agrees book core is = subst (Agrees book) (sym is) (record {
 })
 
 are_accounts : (book : Book) (xs : List Account) → AreBalanced book xs
-    → xs ≡ map (account_of book) (map participant_of xs)
+    → xs ≡ map (account_of book) (map participant_in xs)
 are_accounts book [] h = refl
 are_accounts book (x ∷ xs) h = λ i. record { participant = x.participant; balance = h.0 i }
     ∷ are_accounts book xs h.1 i

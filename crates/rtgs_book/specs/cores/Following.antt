@@ -16,8 +16,8 @@ use Rattle.rtgs_book.specs.declared.cores.cores.Core.{Core}
 
 -- ---- accounts
 
-abbrev pub participant_of : Account → Participant
-participant_of a = a.participant
+abbrev pub participant_in : Account → Participant
+participant_in a = a.participant
 
 abbrev pub code_of : Account → List ℕ
 code_of a = a.participant.code

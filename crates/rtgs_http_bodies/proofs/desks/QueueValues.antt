@@ -18,7 +18,7 @@ use Rattle.rtgs_book.specs.declared.participant.Participant.{Participant}
 use Rattle.rtgs_book.specs.declared.order.Order.{Order}
 use Rattle.rtgs_book.specs.declared.order_state.OrderState.{OrderState}
 use Rattle.rtgs_book.specs.declared.order_state.OrderState.TheVariants.{Queued, Held, Settled, Withdrawn, Rejected}
-use Rattle.rtgs_book.specs.Lookup.{participant_of, accounts, has_code}
+use Rattle.rtgs_book.specs.Lookup.{participant_of, codes_of, has_code}
 use Rattle.rtgs_book.specs.Queue.{queue, waiting}
 use Rattle.rtgs_book.specs.Ranges.{Fits}
 use Rattle.rtgs_book.specs.Soundness.{IsSound}
@@ -76,7 +76,7 @@ IsShort book code = length (waiting book code) ≤ LONGEST_QUEUE
 
 known_short : (book : Book) (code : List ℕ) (found : Participant) → IsSound book
     → participant_of book code ≡ Some found → IsShort book code
-unfolding participant_of accounts
+unfolding participant_of codes_of
 known_short book code found sound e = at_known (IsShort book) code book.participants found e sound.queues.short
 
 queue_bounded : (book : Book) (code : List ℕ) → Fits book
@@ -117,5 +117,5 @@ each_fits book [] fits short = tt
 each_fits book (p ∷ ps) fits short = (value_fits book p.code fits short.0, each_fits book ps fits short.1)
 
 pub all_fit : (book : Book) → IsSound book → Fits book → QueuedValuesFit (readings_of book)
-unfolding accounts
+unfolding codes_of
 all_fit book sound fits = each_fits book book.participants fits sound.queues.short

@@ -22,7 +22,7 @@ use Rattle.rtgs_book.specs.Commands.{repeated, add, with_participant, is_same_pa
 use Rattle.rtgs_book.specs.Commands.{known_posting, order, is_same_order, known_order, taken_order, takes}
 use Rattle.rtgs_book.specs.Commands.{is_same_due, takes_due}
 use Rattle.rtgs_book.specs.Commands.{settles_at_once, has_number, withdraw, is_withdrawn_order, number_of, with_state}
-use Rattle.rtgs_book.specs.Lookup.{has_code, accounts, participant_of, is_participant, is_order_named, order_named}
+use Rattle.rtgs_book.specs.Lookup.{has_code, codes_of, participant_of, is_participant, is_order_named, order_named}
 use Rattle.rtgs_book.specs.Lookup.{is_posting_named, posting_named}
 use Rattle.rtgs_book.specs.Outcome.{OwnReply, Reply, Outcome, alone, is_done}
 use Rattle.rtgs_book.specs.Run.{is_accepted}
@@ -41,7 +41,7 @@ use Rattle.rtgs_lists.proofs.Numbers.{eq_self, int_eq_self}
 
 -- a code is a participant's where one is found under it
 pub known_participant : (book : Book) (code : List ℕ) → is_participant book code ≡ is_some (participant_of book code)
-unfolding is_participant accounts participant_of
+unfolding is_participant codes_of participant_of
 known_participant book code = by book.participants
   where
     by : (ps : List Participant) → list_any (bytes_eq code) (map (λ (p : Participant). p.code) ps)
@@ -57,7 +57,7 @@ known_participant book code = by book.participants
 
 pub same_participant : (old new : Book) (code : List ℕ) → new.participants ≡ old.participants
     → is_participant new code ≡ is_participant old code
-unfolding is_participant accounts
+unfolding is_participant codes_of
 same_participant old new code same = λ i. list_any (bytes_eq code) (map (λ p. p.code) (same i))
 
 pub there : {X : Type 0} (o : Option X) → is_some o ≡ true → (x : X) × (o ≡ Some x)

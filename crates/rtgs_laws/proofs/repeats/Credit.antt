@@ -17,7 +17,7 @@ use Rattle.rtgs_book.specs.Balance.{balance, floor}
 use Rattle.rtgs_book.specs.Books.{is_automatic, is_closed}
 use Rattle.rtgs_book.specs.Calm.{IsCalm}
 use Rattle.rtgs_book.specs.Commands.{set_credit, with_credit}
-use Rattle.rtgs_book.specs.Lookup.{has_code, accounts, is_participant, credit_of, participant_of}
+use Rattle.rtgs_book.specs.Lookup.{has_code, codes_of, is_participant, credit_of, participant_of}
 use Rattle.rtgs_book.specs.Outcome.{OwnReply, Reply, Outcome, alone, first_of, is_done}
 use Rattle.rtgs_book.specs.Run.{is_accepted}
 use Rattle.rtgs_book.specs.Soundness.{FloorsHold, IsSound}
@@ -55,7 +55,7 @@ same_codes code credit (p ∷ ps) = (λ i. by (has_code code p) i ∷ same_codes
 
 still_participant : (book : Book) (code : List ℕ) (credit : ℕ)
     → is_participant (with_credit book code credit) code ≡ is_participant book code
-unfolding is_participant accounts with_credit
+unfolding is_participant codes_of with_credit
 still_participant book code credit i = list_any (bytes_eq code) (same_codes code credit book.participants i)
 
 stays_set : (old new : Book) (code : List ℕ) (credit : ℕ)
@@ -86,7 +86,7 @@ limit_there code credit (p ∷ ps) known = by (has_code code p) refl (limit_ther
 credit_there : (old new : Book) (code : List ℕ) (credit : ℕ)
     → new.participants ≡ (with_credit old code credit).participants → is_participant old code ≡ true
     → credit_of new code ≡ credit
-unfolding with_credit credit_of participant_of is_participant accounts
+unfolding with_credit credit_of participant_of is_participant codes_of
 credit_there old new code credit same known =
     ap (λ (ps : List Participant). unwrap_or (option_map (λ (p : Participant). p.credit) (find (has_code code) ps)) 0)
     same ∙ limit_there code credit old.participants known
@@ -96,7 +96,7 @@ credit_there old new code credit same known =
 floor_there : (book : Book) (code : List ℕ) → FloorsHold book → is_participant book code ≡ true
     → floor book code ≤ℤ balance book code
 unfolding is_participant
-floor_there book code floors known = by (accounts book) floors known
+floor_there book code floors known = by (codes_of book) floors known
   where
     by : (codes : List (List ℕ)) → AllByRecursion (λ c. floor book c ≤ℤ balance book c) codes
         → list_any (bytes_eq code) codes ≡ true → floor book code ≤ℤ balance book code

@@ -11,7 +11,7 @@ use Rattle.rtgs_book.specs.declared.command.Command.TheVariants.{OpenDay, Resolv
 use Rattle.rtgs_book.specs.declared.answer.Answer.TheVariants.{Closed, Nothing}
 use Rattle.rtgs_book.specs.Books.{is_closed, is_empty, is_open, is_queued}
 use Rattle.rtgs_book.specs.Choice.{Choice, chosen, is_chosen, IsGreatest}
-use Rattle.rtgs_book.specs.Commands.{has_choice, is_date, opened_day, resolve}
+use Rattle.rtgs_book.specs.Commands.{is_automatic_as, is_date, opened_day, resolve}
 use Rattle.rtgs_book.specs.Commands.{repeated, open_day, cut_off, close_day}
 use Rattle.rtgs_book.specs.Outcome.{OwnReply, Outcome, Reply, alone, first_of, is_done}
 use Rattle.rtgs_book.specs.Run.{is_accepted}
@@ -55,13 +55,13 @@ closed_count old new date count s =
 
 -- ---- the day that was opened, and what a resolution leaves of it
 
-has_own_choice : (date : Option ℕ) (automatic : Bool) → has_choice automatic (record {
+is_automatic_as_said : (date : Option ℕ) (automatic : Bool) → is_automatic_as automatic (record {
   date = date;
   phase = Open;
   automatic = automatic;
 }) ≡ true
-has_own_choice date true = refl
-has_own_choice date false = refl
+is_automatic_as_said date true = refl
+is_automatic_as_said date false = refl
 
 own_opened : (old new : Book) (reply : OwnReply) (new_day : NewDay) → is_done reply ≡ true
     → OwnStep old (OpenDay new_day) reply new → new.day ≡ opened_day new_day
@@ -71,10 +71,10 @@ own_opened old new reply new_day accepted s =
     ap (λ (o : Outcome). o.book.day) p.1
 
 opened_test : (new : Book) (new_day : NewDay) (day : Day) → day ≡ opened_day new_day
-    → (is_open day.phase && is_date day.date new_day.date && has_choice new_day.automatic day) ≡ true
+    → (is_open day.phase && is_date day.date new_day.date && is_automatic_as new_day.automatic day) ≡ true
 opened_test new new_day day e =
-    subst (λ (d : Day). (is_open d.phase && is_date d.date new_day.date && has_choice new_day.automatic d) ≡ true)
-    (sym e) (and_from _ _ (eq_self new_day.date) (has_own_choice (Some new_day.date) new_day.automatic))
+    subst (λ (d : Day). (is_open d.phase && is_date d.date new_day.date && is_automatic_as new_day.automatic d) ≡ true)
+    (sym e) (and_from _ _ (eq_self new_day.date) (is_automatic_as_said (Some new_day.date) new_day.automatic))
 
 still_opened : (new : Book) (new_day : NewDay) → new.day ≡ opened_day new_day
     → OwnStep new (OpenDay new_day) repeated new

@@ -3,12 +3,12 @@ ghost use Rattle.std.specs.Prelude.{◌≡◌, map, IfOk, IfSome, slice_get};
 ghost use Rattle.std.specs.Option.{option_map};
 ghost use Rattle.rtgs_book.specs.declared.book.Book.{Book};
 ghost use Rattle.rtgs_book.specs.Balance.{balance};
-ghost use Rattle.rtgs_book.specs.Lookup.{accounts};
+ghost use Rattle.rtgs_book.specs.Lookup.{codes_of};
 ghost use Rattle.rtgs_book.specs.Lookup as lookup;
 ghost use Rattle.rtgs_book.specs.Queue.{queue, queued_among};
 ghost use Rattle.rtgs_book.specs.Soundness.{IsSound};
 ghost use Rattle.rtgs_book.specs.cores.Cores.{IsCoreOf};
-ghost use Rattle.rtgs_records.specs.accounts.Accounts.{participant_of};
+ghost use Rattle.rtgs_records.specs.accounts.Accounts.{participant_in};
 ghost use Rattle.rtgs_ledger.specs.Alone.{book_of_participants};
 ghost use Rattle.rtgs_ledger.specs.Keys.{code_under};
 
@@ -22,7 +22,7 @@ impl Ledger {
     /// The participant with this code and its balance, if there is one.
     pub fn account(&self, code: &Code) -> Option<Account>
         ensures participant { (book : Book) → IsCoreOf book self.now.core
-            → option_map participant_of result ≡ lookup.participant_of book code.now }
+            → option_map participant_in result ≡ lookup.participant_of book code.now }
         ensures balance { (book : Book) → IsCoreOf book self.now.core
             → IfSome result (λ account. account.balance ≡ balance book code.now) }
     {
@@ -31,7 +31,7 @@ impl Ledger {
 
     /// The code of the participant whose key has this digest, if there is one.
     pub fn code_of(&self, digest: &KeyDigest) -> Option<Code>
-        ensures { (book : Book) → map participant_of self.now.core.accounts ≡ book.participants
+        ensures { (book : Book) → map participant_in self.now.core.accounts ≡ book.participants
             → result ≡ code_under book digest.now }
     {
         match self.records.accounts.bearer(digest) {
@@ -66,14 +66,14 @@ impl Ledger {
 
     /// The code of the participant at this place, in the order of the codes; past the last there is none.
     pub fn code_at(&self, index: usize) -> Option<Code>
-        ensures { (book : Book) → IsCoreOf book self.now.core → result ≡ slice_get (accounts book) index }
+        ensures { (book : Book) → IsCoreOf book self.now.core → result ≡ slice_get (codes_of book) index }
     {
         self.records.accounts.code_at(index)
     }
 
     /// Whatever was looked up and adopted, the participants are those of a sound book.
     pub fn holds_participants_of_a_sound_book(&self)
-        ensures { IsSound (book_of_participants (map participant_of self.now.core.accounts)) }
+        ensures { IsSound (book_of_participants (map participant_in self.now.core.accounts)) }
     {
         // Called for its contract alone: the accounts are those of participants that a sound book may have.
         let _accounts = self.records.accounts.as_slice();

@@ -1,7 +1,7 @@
 //! The greatest choice of queued orders, as the resolver finds it.
 ghost use Rattle.std.specs.Prelude.{◌≡◌, ◌≤◌, ◌↔◌, List, IfOk, IsTrue, length, slice_index};
 ghost use Rattle.rtgs_book.specs.Choice.{IsGreatest};
-ghost use Rattle.rtgs_book.specs.Lookup.{accounts};
+ghost use Rattle.rtgs_book.specs.Lookup.{codes_of};
 ghost use Rattle.rtgs_choices.specs.ByIndex.{by_code};
 ghost use Rattle.rtgs_ledger.specs.Choosing.{payment_in, payments_in, positions_in, queues_in, taken_from};
 ghost use Rattle.rtgs_book.specs.declared.book.Book.{Book};
@@ -32,7 +32,7 @@ impl Ledger {
     /// have, there are none.
     pub(super) fn greatest_lengths(&self) -> Result<Vec<usize>, OutOfMemory>
         ensures length { (book : Book) → IsCoreOf book self.now.core
-            → IfOk result (λ lengths. length lengths.items ≡ length (accounts book)) }
+            → IfOk result (λ lengths. length lengths.items ≡ length (codes_of book)) }
         ensures greatest { (book : Book) → IsCoreOf book self.now.core → IfOk result (λ lengths.
             IsGreatest book (by_code book (slice_index lengths.items))) }
     {

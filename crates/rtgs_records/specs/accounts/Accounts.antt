@@ -11,7 +11,7 @@ use Rattle.rtgs_book.specs.declared.order.Order.{Order}
 use Rattle.rtgs_book.specs.Balance.{gain}
 use Rattle.rtgs_book.specs.Commands.{is_before}
 use Rattle.rtgs_book.specs.declared.account.Account.{Account}
-pub use Rattle.rtgs_book.specs.cores.Following.{participant_of, code_of, is_of, with_account, rebalanced, with_balance}
+pub use Rattle.rtgs_book.specs.cores.Following.{participant_in, code_of, is_of, with_account, rebalanced, with_balance}
 pub use Rattle.rtgs_book.specs.cores.Following.{limited, with_limit}
 
 -- the accounts, and how many more can be added without memory

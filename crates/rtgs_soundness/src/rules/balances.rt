@@ -15,7 +15,7 @@ ghost use Rattle.rtgs_book.specs.declared.posting.Posting.{Posting};
 ghost use Rattle.rtgs_book.specs.Books.{is_settled};
 ghost use Rattle.rtgs_book.specs.Balance.{gain, balance, floor_at};
 ghost use Rattle.rtgs_book.specs.IntSum.{int_sum_by};
-ghost use Rattle.rtgs_book.specs.Lookup.{accounts};
+ghost use Rattle.rtgs_book.specs.Lookup.{codes_of};
 ghost use Rattle.rtgs_book.specs.Ranges.{Fits};
 ghost use Rattle.rtgs_book.specs.Soundness.{CodesRise, FloorsHold};
 ghost use Rattle.rtgs_book.specs.Totals.{Totals, AreWithin};
@@ -86,7 +86,7 @@ fn is_covered(balances: &BTreeMap<Code, i128>, participant: &Participant, phase:
 pub fn balances(alloc: Global, book: &Book) -> Result<BTreeMap<Code, i128>, AllocError>
     requires few_postings { length book.now.postings ≤ LARGEST_NUMBER }
     requires few_orders { length book.now.orders ≤ LARGEST_NUMBER }
-    ensures sums { IfOk result (Totals (slice_cmp nat_cmp) (accounts book.now) (balance book.now)) }
+    ensures sums { IfOk result (Totals (slice_cmp nat_cmp) (codes_of book.now) (balance book.now)) }
     ensures postings { OnOk result (AllByRecursion (λ (p : Posting). IsPostingAmount p.cents) book.now.postings) }
     ensures orders { OnOk result (AllByRecursion (λ (o : Order). IsAmount o.amount) book.now.orders) }
 {

@@ -31,7 +31,7 @@ pub fn dates_fit(book: &Book) -> bool
 }
 
 /// Whether the day is automatic only while it is in progress.
-pub fn choice_fits(day: &Day) -> bool
+pub fn automatic_fits(day: &Day) -> bool
     ensures { IsTrue result ↔ (IsTrue (is_closed day.now.phase) → day.now.automatic ≡ false) }
 {
     match day.phase {

@@ -11,7 +11,7 @@ ghost use Rattle.rtgs_book.specs.declared.order.Order.{Order};
 ghost use Rattle.rtgs_book.specs.declared.participant.Participant.{Participant};
 ghost use Rattle.rtgs_book.specs.Books.{is_closed, is_queued, is_waiting};
 ghost use Rattle.rtgs_book.specs.IntSum.{int_sum_by};
-ghost use Rattle.rtgs_book.specs.Lookup.{accounts};
+ghost use Rattle.rtgs_book.specs.Lookup.{codes_of};
 ghost use Rattle.rtgs_book.specs.Queue.{waiting};
 ghost use Rattle.rtgs_book.specs.Settle.{today};
 ghost use Rattle.rtgs_book.specs.Soundness.{QueuesFit};
@@ -89,7 +89,7 @@ fn is_short(lengths: &BTreeMap<Code, i128>, participant: &Participant) -> bool
 // How many orders of each participant are queued or held.
 fn waiting_lengths(alloc: Global, book: &Book) -> Result<BTreeMap<Code, i128>, AllocError>
     requires { length book.now.orders ≤ LARGEST_NUMBER }
-    ensures { IfOk result (Totals (slice_cmp nat_cmp) (accounts book.now)
+    ensures { IfOk result (Totals (slice_cmp nat_cmp) (codes_of book.now)
         (λ code. pos (length (waiting book.now code)))) }
 {
     let mut lengths = zeros(alloc, codes_of(alloc, book.participants.as_slice())?)?;

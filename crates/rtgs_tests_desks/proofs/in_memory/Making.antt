@@ -14,7 +14,7 @@ use Rattle.rtgs_book.specs.declared.change.RowChange.TheVariants.{SetBalance, Se
 use Rattle.rtgs_book.specs.Changes.{with_row, changed}
 use Rattle.rtgs_book.specs.Commands.{with_participant, with_credit, with_state, let_in}
 use Rattle.rtgs_book.specs.Commands.{has_number, is_held_with, entered}
-use Rattle.rtgs_book.specs.Lookup.{accounts, has_code}
+use Rattle.rtgs_book.specs.Lookup.{codes_of, has_code}
 use Rattle.rtgs_book.specs.Settle.{in_state}
 use Rattle.rtgs_book.specs.Soundness.{OrdersAreNumbered, AreNumbered, IsSound}
 use Rattle.rtgs_tests_desks.specs.declared.in_memory.memory_keeper.MemoryKeeper.{MemoryKeeper}
@@ -80,7 +80,7 @@ pub record Remains (book : Book) (rows : List RowChange) (end : Book) : Type 0 w
   pub leads : changed book rows ≡ end
 
 pub from_start : (book : Book) (rows : List RowChange) → IsSound book → Remains book rows (changed book rows)
-unfolding accounts
+unfolding codes_of
 from_start book rows sound = record { order = order_of_codes book.participants sound.codes_rise.0; leads = refl }
 
 pub one_more : (book next : Book) (row : RowChange) (rows : List RowChange) (end : Book) → OrdersAreNumbered end

@@ -2,12 +2,12 @@ use Rattle.std.proofs.Common.{◌≡◌, Bool, true, false, refl, arith}
 use Rattle.std.proofs.lemmas.Int.{ints}
 use Rattle.std.specs.List.{IsDistinct}
 use Rattle.std.specs.List.Sorted.{IsStrictlySortedBy}
-use Rattle.rtgs_book.specs.Lookup.{accounts}
+use Rattle.rtgs_book.specs.Lookup.{codes_of}
 use Rattle.rtgs_book.specs.Balance.{total}
 use Rattle.rtgs_book.proofs.laws.new_book_is_sound.Goals as goal
 
 pub returns : goal.returns
-unfolding accounts total IsDistinct IsStrictlySortedBy
+unfolding codes_of total IsDistinct IsStrictlySortedBy
 returns c = record {
   orders_numbered = (refl, omega arith);
   postings_numbered = (refl, omega arith);
@@ -31,5 +31,5 @@ returns c = record {
   };
   floors = tt;
   total_fits = omega (arith, ints);
-  choice_fits = λ _. refl;
+  automatic_fits = λ _. refl;
 }

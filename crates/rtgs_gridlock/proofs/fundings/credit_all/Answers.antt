@@ -2,10 +2,10 @@ use Rattle.std.proofs.Common.{[], ◌≡◌, ◌≤◌, ◌<◌, ◌+◌, length
 use Rattle.std.proofs.lemmas.List.{take_all}
 use Rattle.std.proofs.lemmas.List.Elements.{All-same}
 use Rattle.rtgs_gridlock.specs.Choices.{queue_of, amount_to, received}
-use Rattle.rtgs_gridlock.specs.Standings.{everything}
+use Rattle.rtgs_gridlock.specs.Fundings.{everything}
 use Rattle.rtgs_gridlock.proofs.ChoiceLemmas.{received_from, received_from_none, received_from_more, received_from_all}
 use Rattle.rtgs_gridlock.proofs.ChoiceLemmas.{payments_below_more, payments_below-le}
-use Rattle.rtgs_gridlock.proofs.standings.credit_all.Goals as goal
+use Rattle.rtgs_gridlock.proofs.fundings.credit_all.Goals as goal
 
 pub loop-index-init : goal.loop-index-init
 loop-index-init c = record {
@@ -36,7 +36,7 @@ pub loop-index-preserved : goal.loop-index-preserved
 loop-index-preserved c =
     let queues = c.args.queues.now in
     let index = c.loop-index.index in
-    let count : length queues ≤ length c.loop-index.standings = omega arith in
+    let count : length queues ≤ length c.loop-index.fundings = omega arith in
     record {
       funds = λ p b.
           let step = received_from_more index queues (everything queues) p in

@@ -4,13 +4,13 @@ use Rattle.rtgs_book.specs.declared.participant.Participant.{Participant}
 use Rattle.rtgs_book.specs.declared.posting.Posting.{Posting}
 use Rattle.rtgs_book.specs.Balance.{balance, total, issued}
 use Rattle.rtgs_book.specs.IntSum.{int_sum_by}
-use Rattle.rtgs_book.specs.Lookup.{accounts}
+use Rattle.rtgs_book.specs.Lookup.{codes_of}
 use Rattle.rtgs_rows.specs.Content.{Holding}
 use Rattle.rtgs_rows.proofs.Money.{int_sum_by-permuted, stored_sum}
 use Rattle.rtgs_rows.proofs.laws.stored_balances_are_the_postings.Goals as goal
 
 pub returns : goal.returns
-unfolding total issued accounts
+unfolding total issued codes_of
 returns c book content of =
     let code : Participant → List ℕ = λ p. p.code in
     let who = map (λ (h : Holding). h.participant) content.holdings in

@@ -6,7 +6,7 @@ use Rattle.rtgs_book.specs.declared.posting.Posting.{Posting}
 use Rattle.rtgs_book.specs.declared.order.Order.{Order}
 use Rattle.rtgs_book.specs.declared.mark.Mark.{Mark}
 use Rattle.rtgs_book.specs.IntSum.{int_sum_by}
-use Rattle.rtgs_book.specs.Lookup.{accounts}
+use Rattle.rtgs_book.specs.Lookup.{codes_of}
 use Rattle.rtgs_book.specs.Soundness.{AreNumbered, AreCodes, is_same_name}
 use Rattle.rtgs_book.specs.declared.rule.Rule.TheVariants.{PostingNumbers, MarkNumbers, ParticipantCodes, Parties}
 use Rattle.rtgs_book.specs.declared.rule.Rule.TheVariants.{Marks, Floors, Total}
@@ -47,7 +47,7 @@ returns-in-MarkNumbers-clause-kept c = rw c.in-MarkNumbers.is
     (map (λ (x : Mark). x.number) xs)) c.as_slice.ensures c.are_numbered-in-MarkNumbers.ensures)
 
 pub returns-in-ParticipantCodes-clause-kept : goal.returns-in-ParticipantCodes-clause-kept
-unfolding accounts
+unfolding codes_of
 returns-in-ParticipantCodes-clause-kept c = rw c.in-ParticipantCodes.is
     (subst (λ (xs : List Participant). (c.codes_rise.result ≡ true) ↔ AreCodes (map (λ (x : Participant). x.code) xs))
     c.as_slice-participants.ensures c.codes_rise.ensures)

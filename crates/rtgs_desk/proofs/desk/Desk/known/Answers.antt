@@ -6,14 +6,14 @@ use Rattle.rtgs_book.specs.declared.participant.Participant.{Participant}
 use Rattle.rtgs_book.specs.declared.refusal.Refusal.TheVariants.{UnknownParticipant}
 use Rattle.rtgs_book.specs.Balance.{balance}
 use Rattle.rtgs_book.specs.Lookup as lookup
-use Rattle.rtgs_book.specs.cores.Following.{participant_of}
+use Rattle.rtgs_book.specs.cores.Following.{participant_in}
 use Rattle.rtgs_desk.specs.Readings.{account_known, if_known}
 use Rattle.rtgs_desk.proofs.HoldingLemmas.{core_remembered}
 use Rattle.rtgs_desk.proofs.desk.Desk.known.Goals as goal
 
 -- an account with its participant and balance is what is known of the code
 known_account : (book : Book) (code : List ℕ) (found : Option Account)
-    → option_map participant_of found ≡ lookup.participant_of book code
+    → option_map participant_in found ≡ lookup.participant_of book code
     → IfSome found (λ (a : Account). a.balance ≡ balance book code)
     → ok_or found UnknownParticipant ≡ account_known book code
 known_account book code None e is = subst (λ (o : Option Participant). Err UnknownParticipant ≡ if_known {X = Account} o

@@ -4,5 +4,5 @@ use Rattle.rtgs_gridlock.proofs.workspace.Workspace.list_parties.Goals as goal
 
 pub returns-clause-steps : goal.returns-clause-steps
 returns-clause-steps c =
-    on_count-two c.args.self.now.standings.steps c.args.self.now.waiting c.put.new.self c.put-2.new.self c.args.sender
+    on_count-two c.args.self.now.fundings.steps c.args.self.now.untested c.put.new.self c.put-2.new.self c.args.sender
     c.args.receiver (omega arith) (omega arith) c.put.ensures c.put-2.ensures

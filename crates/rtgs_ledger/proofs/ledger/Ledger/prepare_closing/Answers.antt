@@ -7,7 +7,7 @@ use Rattle.rtgs_book.specs.declared.book.Book.{Book}
 use Rattle.rtgs_book.specs.declared.change.RowChange.TheVariants.{SetDay}
 use Rattle.rtgs_book.specs.declared.order_state.OrderState.TheVariants.{Rejected}
 use Rattle.rtgs_book.specs.Books.{is_queued}
-use Rattle.rtgs_book.specs.Lookup.{accounts}
+use Rattle.rtgs_book.specs.Lookup.{codes_of}
 use Rattle.rtgs_book.specs.Queue.{queued_numbers}
 use Rattle.rtgs_choices.specs.Closing.{closed_book}
 use Rattle.rtgs_records.specs.accounts.Accounts.{code_of}
@@ -53,7 +53,7 @@ returns-clause-prepared c book is can =
     let here = book_of r in
     let at = subst (λ (b : Book). IsClosable b c.args.date) (sym of.same) can in
     let covered = nobody_below r of.kept (sym c.first_overdrawn.ensures ∙ c.in_default.is) in
-    let numbers : c.in_ok-numbers.numbers.items ≡ flat_map (queued_numbers here.orders) (accounts here) =
+    let numbers : c.in_ok-numbers.numbers.items ≡ flat_map (queued_numbers here.orders) (codes_of here) =
     c.in_ok-numbers.ensures
     ∙ ap (λ (h : seen.Held). flat_map (λ (a : Account). queued_numbers h.core.waiting (code_of a)) h.core.accounts)
     (sym c.self.view_is)

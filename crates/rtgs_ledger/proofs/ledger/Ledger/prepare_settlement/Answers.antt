@@ -1,7 +1,7 @@
 use Rattle.std.proofs.Common.{◌≡◌, ◌∙◌, ◌++◌, ◌∷◌, ◌+◌, ◌<◌, ◌^◌, [], Some, length, map, sum_by, pos, append_assoc, sym}
 use Rattle.std.proofs.Common.{ap, subst, refl, arith}
 use Rattle.std.proofs.lemmas.Bool.Decides.{nat_tests}
-use Rattle.rtgs_book.specs.Lookup.{accounts}
+use Rattle.rtgs_book.specs.Lookup.{codes_of}
 use Rattle.rtgs_book.specs.declared.book.Book.{Book}
 use Rattle.rtgs_book.specs.declared.change.RowChange.TheVariants.{AddMark, SetState}
 use Rattle.rtgs_book.specs.declared.order.Order.{Order}
@@ -23,7 +23,7 @@ returns-then-not-counts_marks-clause-refused c book is =
     absurd (grind (arith, nat_tests, counted, test))
 
 pub returns-clause-prepared : goal.returns-clause-prepared
-unfolding accounts
+unfolding codes_of
 returns-clause-prepared c book is chosen dated =
     let r = c.self.inside.records in
     let of = is_of_book book r c.args.self.now c.self.view_is is in

@@ -6,7 +6,7 @@ use Rattle.rtgs_book.specs.declared.participant.Participant.{Participant}
 use Rattle.rtgs_book.specs.declared.posting.Posting.{Posting}
 use Rattle.rtgs_book.specs.Books.{is_settled}
 use Rattle.rtgs_book.specs.IntSum.{int_sum_by}
-use Rattle.rtgs_book.specs.Lookup.{accounts}
+use Rattle.rtgs_book.specs.Lookup.{codes_of}
 use Rattle.rtgs_book.specs.Totals.{Totals}
 use Rattle.rtgs_book.specs.Balance.{balance, gain}
 use Rattle.rtgs_soundness.proofs.Totals.{total_at, totals_same}
@@ -22,9 +22,9 @@ add_postings-requires-clause-small c = λ key total e.
     (omega (arith, ints), omega (arith, ints))
 
 pub returns-clause-sums : goal.returns-clause-sums
-unfolding accounts balance
+unfolding codes_of balance
 returns-clause-sums c =
-    let codes : c.in_ok-codes_of.field-0.items ≡ accounts c.args.book.now = c.in_ok-codes_of.ensures
+    let codes : c.in_ok-codes_of.field-0.items ≡ codes_of c.args.book.now = c.in_ok-codes_of.ensures
     ∙ ap (λ ps. map (λ (p : Participant). p.code) ps) c.as_slice.ensures in
     let postings = c.add_postings.ensures.sums c.in_ok-codes_of.field-0.items (λ code. pos 0) c.in_ok-totals.ensures in
     let orders = c.add_orders.ensures.sums c.in_ok-codes_of.field-0.items _ postings in

@@ -3,13 +3,13 @@ use Rattle.std.specs.Cmp.Lexicographic.{slice_cmp}
 use Rattle.std.specs.List.{AllByRecursion}
 use Rattle.rtgs_book.specs.declared.participant.Participant.{Participant}
 use Rattle.rtgs_book.specs.Balance.{balance, floor_at}
-use Rattle.rtgs_book.specs.Lookup.{accounts}
+use Rattle.rtgs_book.specs.Lookup.{codes_of}
 use Rattle.rtgs_book.specs.Totals.{Totals}
 use Rattle.rtgs_soundness.proofs.Floors.{floors_of}
 use Rattle.rtgs_soundness.proofs.rules.balances.floors_hold.Goals as goal
 
 pub returns-clause-floors : goal.returns-clause-floors
-unfolding accounts
+unfolding codes_of
 returns-clause-floors c =
     let same = c.as_slice-participants.ensures in
     let sums = subst (λ (ps : List Participant). Totals (slice_cmp nat_cmp) (map (λ (p : Participant). p.code) ps)

@@ -3,14 +3,14 @@ use Rattle.std.specs.Cmp.Lexicographic.{slice_cmp}
 use Rattle.std.specs.List.{AllByRecursion}
 use Rattle.rtgs_book.specs.declared.limits.TheConstants.{LONGEST_QUEUE}
 use Rattle.rtgs_book.specs.declared.participant.Participant.{Participant}
-use Rattle.rtgs_book.specs.Lookup.{accounts}
+use Rattle.rtgs_book.specs.Lookup.{codes_of}
 use Rattle.rtgs_book.specs.Queue.{waiting}
 use Rattle.rtgs_book.specs.Totals.{Totals}
 use Rattle.rtgs_soundness.proofs.Queues.{queues_of, long_queue}
 use Rattle.rtgs_soundness.proofs.rules.queues.queues_fit.Goals as goal
 
 pub returns-then-not-are_short : goal.returns-then-not-are_short
-unfolding accounts
+unfolding codes_of
 returns-then-not-are_short c = (
   λ e. absurd (true≢false (sym e)),
   λ fit. let same = c.as_slice.ensures in
@@ -24,7 +24,7 @@ returns-then-not-are_short c = (
 )
 
 pub returns : goal.returns
-unfolding accounts
+unfolding codes_of
 returns c =
     let same = c.as_slice.ensures in
     let lengths = subst (λ (ps : List Participant). Totals (slice_cmp nat_cmp) (map (λ (p : Participant). p.code) ps)

@@ -6,7 +6,7 @@ use Rattle.rtgs_book.specs.declared.participant.Participant.{Participant}
 use Rattle.rtgs_book.specs.declared.order.Order.{Order}
 use Rattle.rtgs_book.specs.Books.{is_waiting}
 use Rattle.rtgs_book.specs.IntSum.{int_sum_by}
-use Rattle.rtgs_book.specs.Lookup.{accounts}
+use Rattle.rtgs_book.specs.Lookup.{codes_of}
 use Rattle.rtgs_book.specs.Queue.{waiting}
 use Rattle.rtgs_book.specs.Totals.{Totals}
 use Rattle.rtgs_soundness.proofs.Totals.{total_at, totals_same, count_is_sum}
@@ -22,9 +22,9 @@ from_nothing : (a : ℤ) → pos 0 +ℤ a ≡ a
 from_nothing a = omega (arith, ints)
 
 pub returns : goal.returns
-unfolding accounts waiting
+unfolding codes_of waiting
 returns c =
-    let codes : c.in_ok-codes_of.field-0.items ≡ accounts c.args.book.now = c.in_ok-codes_of.ensures
+    let codes : c.in_ok-codes_of.field-0.items ≡ codes_of c.args.book.now = c.in_ok-codes_of.ensures
     ∙ ap (λ ps. map (λ (p : Participant). p.code) ps) c.as_slice.ensures in
     subst (λ codes. Totals (slice_cmp nat_cmp) codes (λ code. pos (length (waiting c.args.book.now code)))
     c.count_waiting.new.lengths) codes

@@ -1,5 +1,5 @@
 use Rattle.std.proofs.Common.{◌≡◌, rules, map, IfOk, string_bytes, [], ◌∷◌, refl, subst, ◌∙◌}
-use Rattle.rtgs_book.specs.Lookup.{accounts}
+use Rattle.rtgs_book.specs.Lookup.{codes_of}
 use Rattle.rtgs_statements.specs.declared.line.Line.TheVariants.{ReportOf, Account, Marks}
 use Rattle.rtgs_statements.specs.Records.{postings_on, orders_on, marks_on}
 use Rattle.rtgs_statements.specs.Sums.{sums_at}
@@ -14,7 +14,7 @@ returns c book is =
     let listed : c.deref.result.now ≡ map (λ code. Account code (sums_at day.posted day.ordered.sent
     day.ordered.received code)) day.codes.items = search rules in
     let accounts_are : c.deref.result.now ≡ map (account_line (postings_on date book.postings)
-    (orders_on date book.orders)) (accounts book) =
+    (orders_on date book.orders)) (codes_of book) =
     listed ∙ (λ i. map (λ code. Account code (record {
       posted = is.posted code i;
       sent = is.ordered.sent code i;
@@ -24,6 +24,6 @@ returns c book is =
     reported_standings = c.lines-standings.ensures ∙ (λ i. map (λ standing. is.ordered.standings standing i)
     reported_standings) in
     subst (λ bytes. IfOk c.text_of_parts.result (λ text. string_bytes text ≡ bytes))
-    (report_is date (accounts book) (postings_on date book.postings) (orders_on date book.orders)
+    (report_is date (codes_of book) (postings_on date book.postings) (orders_on date book.orders)
     (marks_on date book.marks) (ReportOf date ∷ []) c.deref.result.now c.lines-standings.result (Marks day.marks ∷ [])
     refl accounts_are standings_are (λ i. Marks (is.marks i) ∷ [])) c.text_of_parts.ensures
