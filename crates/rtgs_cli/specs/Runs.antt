@@ -9,8 +9,8 @@ use Rattle.rtgs_refusals.specs.declared.refusal_kind.RefusalKind.{RefusalKind}
 use Rattle.rtgs_refusal_texts.specs.Texts.{explanation}
 use Rattle.rtgs_money.specs.declared.lexical.Lexical.{Lexical}
 use Rattle.rtgs_book.specs.declared.refusal.Refusal.TheVariants.{OutOfMemory}
-use Rattle.rtgs_cli_arguments.specs.declared.asked.Asked.{Asked}
-use Rattle.rtgs_cli_arguments.specs.declared.asked.Asked.TheVariants.{Run, Refusals}
+use Rattle.rtgs_cli_arguments.specs.declared.invocation.Invocation.{Invocation}
+use Rattle.rtgs_cli_arguments.specs.declared.invocation.Invocation.TheVariants.{Run, Refusals}
 use Rattle.rtgs_cli_arguments.specs.requests.Requests.{JudgedRequest, ReadsRequest, Words}
 use Rattle.rtgs_cli_arguments.specs.declared.requests.request.Request.TheVariants.{Make, Migrate, Submit, Import, Read}
 use Rattle.rtgs_cli_arguments.specs.declared.requests.request.Request.TheVariants.{Serve}
@@ -124,7 +124,7 @@ module _ {A K U C : Type 0} (book_file : OverFile K U C) where
 
   -- The same of a run whose command line was read so: the words of a request, the refusals to explain, none, or what
   -- the command line itself has to say.
-  abbrev pub EndsAfter : {O E : Type 0} → Result (Option Asked) Error → Writers O E → Ended → Traces A U C → Type 0
+  abbrev pub EndsAfter : {O E : Type 0} → Result (Option Invocation) Error → Writers O E → Ended → Traces A U C → Type 0
   EndsAfter (Ok (Some (Run words))) writers ends touched = EndsFor words writers ends touched
   EndsAfter (Ok (Some (Refusals which))) writers ends touched =
       AreExplained which writers.out ends × HasTakenNothing writers.err × IsUntouched book_file touched
@@ -136,4 +136,4 @@ module _ {A K U C : Type 0} (book_file : OverFile K U C) where
 
   -- the same of a run whose command line was read in some way
   abbrev pub Ends : {O E : Type 0} → Writers O E → Ended → Traces A U C → Type 0
-  Ends writers ends touched = (read : Result (Option Asked) Error) × EndsAfter read writers ends touched
+  Ends writers ends touched = (read : Result (Option Invocation) Error) × EndsAfter read writers ends touched

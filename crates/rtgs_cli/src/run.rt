@@ -13,7 +13,7 @@ use crate::actions::{RunUsed, act};
 use clap::Error;
 use clap::error::ErrorKind;
 use rtgs_book_file::{BookFile, FileKeeper};
-use rtgs_cli_arguments::{Asked, Words, read_request, read_words};
+use rtgs_cli_arguments::{Invocation, Words, judge_request, read_words};
 use rtgs_cli_files::{Acted, Touched, Traces};
 use rtgs_cli_lines::{Ended, Failure, Printed};
 use rtgs_keeper::Keeper;
@@ -72,7 +72,7 @@ fn carry_out<B: BookFile, O: Write>(
     ensures refused { IfErr result.0 (IsDenied (over ⟦<B::Kept as Keeper>⟧ B.facts) words.now
         (record { contents = O.contents; before = out.old; after = out.new }) result.1) }
 {
-    match read_request(words) {
+    match judge_request(words) {
         Ok(request) => act(rt, &request, start, out),
         Err(form) => (Err(Failure::Form(form)), Touched::Nothing(start)),
     }
@@ -81,7 +81,7 @@ fn carry_out<B: BookFile, O: Write>(
 /// Does what the words of a command line ask for that was read so, and tells how that ended, and what was touched.
 fn end<B: BookFile, O: Write, E: Write>(
     rt: &HostRuntime,
-    read: Result<Option<Asked<'_>>, Error>,
+    read: Result<Option<Invocation<'_>>, Error>,
     start: B,
     out: &mut O,
     err: &mut E,
@@ -92,14 +92,14 @@ fn end<B: BookFile, O: Write, E: Write>(
     }) result.0 result.1 }
 {
     match read {
-        Ok(Some(Asked::Run(words))) => {
+        Ok(Some(Invocation::Run(words))) => {
             let (acted, touched) = carry_out(rt, &words, start, out);
             match acted {
                 Ok(printed) => (Ended::Printed(printed), touched),
                 Err(failure) => (report_refusal(failure, err), touched),
             }
         }
-        Ok(Some(Asked::Refusals(which))) => {
+        Ok(Some(Invocation::Refusals(which))) => {
             (explain_refusals(which, out), Touched::Nothing(start))
         }
         Ok(None) => (Ended::Misused(Ok(())), Touched::Nothing(start)),

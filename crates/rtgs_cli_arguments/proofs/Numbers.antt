@@ -3,7 +3,7 @@ use Rattle.std.proofs.Common.{◌≡◌, ◌∙◌, ◌<◌, ◌^◌, ℕ, List,
 use Rattle.std.specs.Prelude.{Result, Ok, Err}
 use Rattle.std.specs.Str.Parse.{IsNumeral, ParsesUnsigned, digits_value, without_leading_plus}
 use Rattle.clap.specs.Words.{ReadsOne, Row, Text, one_of}
-use Rattle.rtgs_cli_arguments.specs.Asked.{IsChosen, IsNumber}
+use Rattle.rtgs_cli_arguments.specs.Invocation.{IsChosen, IsNumber}
 
 -- a text that is read as no number is none
 no_number : {E : Type 0} (bits : ℕ) (e : E) (t u : Text) (n : ℕ) → ParsesUnsigned bits 10 t (Err e) → u ≡ t

@@ -13,7 +13,7 @@ use Rattle.rtgs_cli_arguments.specs.declared.requests.reading_words.ReadingWords
 use Rattle.rtgs_cli_arguments.specs.declared.requests.request.Request.TheVariants.{Make, Migrate, Submit, Import, Read}
 use Rattle.rtgs_cli_arguments.specs.declared.requests.request.Request.TheVariants.{Serve}
 use Rattle.rtgs_cli_arguments.specs.requests.Requests.{Words}
-use Rattle.rtgs_cli_arguments.specs.Asked.{AreWordsOfRun, IsCommand, IsNumber, AreWordsOfReading}
+use Rattle.rtgs_cli_arguments.specs.Invocation.{AreWordsOfRun, IsCommand, IsNumber, AreWordsOfReading}
 
 -- two names differ where a look at their bytes says so
 pub differ : (a b : Text) → bytes_eq a b ≡ false → ¬ a ≡ b

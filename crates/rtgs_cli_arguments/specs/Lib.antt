@@ -1,3 +1,3 @@
-pub mod Asked
 pub mod CommandLine
+pub mod Invocation
 pub mod requests

@@ -1,7 +1,7 @@
 //! The course of a business day, as the command line names it.
 ghost use Rattle.std.specs.Prelude.{◌≡◌, IfOk, ◌∷◌, [], codes, false};
 ghost use Rattle.clap.specs.Words.{found_of, rows_of, rule_of};
-ghost use Rattle.rtgs_cli_arguments.specs.Asked.{IsCommand};
+ghost use Rattle.rtgs_cli_arguments.specs.Invocation.{IsCommand};
 ghost use Rattle.rtgs_cli_arguments.specs.CommandLine as line;
 
 use crate::requests::CommandWords;

@@ -4,8 +4,8 @@
 ghost use Rattle.std.specs.Prelude.{◌≡◌, ◌++◌, IfOk, codes, false, true};
 ghost use Rattle.clap.specs.Words.{App, Shape, found_of, rows_of, rule_of, subcommand_rows_of, with_subcommand};
 ghost use Rattle.clap.specs.declared.parser.matches.ArgMatches.{ArgMatches as Found};
-ghost use Rattle.rtgs_cli_arguments.specs.Asked.{AreWordsOfRun, AsksFor, IsChosen, IsCommand, IsFlag};
-ghost use Rattle.rtgs_cli_arguments.specs.Asked.{AreWordsOfReading, IsWord};
+ghost use Rattle.rtgs_cli_arguments.specs.Invocation.{AreWordsOfRun, Invokes, IsChosen, IsCommand, IsFlag};
+ghost use Rattle.rtgs_cli_arguments.specs.Invocation.{AreWordsOfReading, IsWord};
 ghost use Rattle.rtgs_cli_arguments.specs.CommandLine as line;
 
 use crate::version::VERSION;
@@ -13,8 +13,8 @@ use clap::{Arg, ArgAction, ArgMatches, Command, Error};
 use std::alloc::{AllocError, Global};
 
 mod accounts;
-mod asked;
 mod days;
+mod invocation;
 mod orders;
 mod readings;
 mod refusals;
@@ -22,9 +22,9 @@ mod requests;
 mod serving;
 mod version;
 
-pub use crate::asked::Asked;
+pub use crate::invocation::Invocation;
 pub use crate::requests::{
-    CommandWords, JudgedRequest, ReadingWords, Request, Words, read_request,
+    CommandWords, JudgedRequest, ReadingWords, Request, Words, judge_request,
 };
 
 /// The book's file, which each subcommand takes first.
@@ -232,27 +232,30 @@ fn words_of<'a>(name: &str, given: &ArgMatches<'a>) -> Option<Words<'a>>
 }
 
 /// What the matches ask for. The number of no refusal is a fault of the command line.
-fn asked_of<'a>(alloc: Global, matches: &ArgMatches<'a>) -> Result<Option<Asked<'a>>, Error>
-    ensures { IfOk result (AsksFor (subcommand_rows_of matches.now)) }
+fn invocation_of<'a>(
+    alloc: Global,
+    matches: &ArgMatches<'a>,
+) -> Result<Option<Invocation<'a>>, Error>
+    ensures { IfOk result (Invokes (subcommand_rows_of matches.now)) }
 {
     let Some((name, given)) = matches.subcommand() else {
         return Ok(None);
     };
     if name == "explain" {
         let which = refusals::named_refusal(alloc, given)?;
-        return Ok(Some(Asked::Refusals(which)));
+        return Ok(Some(Invocation::Refusals(which)));
     }
     match words_of(name, given) {
-        Some(words) => Ok(Some(Asked::Run(words))),
+        Some(words) => Ok(Some(Invocation::Run(words))),
         None => Ok(None),
     }
 }
 
 /// What the words ask for, or the fault or the help of the command line.
-pub fn read_words<'a>(alloc: Global, words: &'a [&'a str]) -> Result<Option<Asked<'a>>, Error>
-    ensures { IfOk result (λ asked. (found : Found) × line.MeetsOne found × AsksFor (subcommand_rows_of found)
+pub fn read_words<'a>(alloc: Global, words: &'a [&'a str]) -> Result<Option<Invocation<'a>>, Error>
+    ensures { IfOk result (λ asked. (found : Found) × line.MeetsOne found × Invokes (subcommand_rows_of found)
         asked) }
 {
     let matches = desk_command(alloc)?.try_get_matches_from(words)?;
-    asked_of(alloc, &matches)
+    invocation_of(alloc, &matches)
 }

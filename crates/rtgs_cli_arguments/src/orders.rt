@@ -1,7 +1,7 @@
 //! Files of orders and withdrawals, as the command line names them.
 ghost use Rattle.std.specs.Prelude.{IfOk, codes};
 ghost use Rattle.clap.specs.Words.{found_of, rows_of};
-ghost use Rattle.rtgs_cli_arguments.specs.Asked.{AreWordsOfRun, IsCommand};
+ghost use Rattle.rtgs_cli_arguments.specs.Invocation.{AreWordsOfRun, IsCommand};
 ghost use Rattle.rtgs_cli_arguments.specs.CommandLine as line;
 
 use crate::requests::{CommandWords, Request, Words};

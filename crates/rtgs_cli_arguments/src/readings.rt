@@ -1,7 +1,7 @@
 //! What the desk tells, as the command line names it.
 ghost use Rattle.std.specs.Prelude.{IfOk, ◌∷◌, [], codes};
 ghost use Rattle.clap.specs.Words.{found_of, rows_of};
-ghost use Rattle.rtgs_cli_arguments.specs.Asked.{AreWordsOfReading};
+ghost use Rattle.rtgs_cli_arguments.specs.Invocation.{AreWordsOfReading};
 ghost use Rattle.rtgs_cli_arguments.specs.CommandLine as line;
 
 use crate::requests::ReadingWords;

@@ -1,7 +1,7 @@
 //! What is said of refusals, as the command line asks for it.
 ghost use Rattle.std.specs.Prelude.{◌≡◌, IfOk, codes, false};
 ghost use Rattle.clap.specs.Words.{found_of, rows_of, rule_of};
-ghost use Rattle.rtgs_cli_arguments.specs.Asked.{IsChosen, IsNumber, NamesRefusal};
+ghost use Rattle.rtgs_cli_arguments.specs.Invocation.{IsChosen, IsNumber, NamesRefusal};
 ghost use Rattle.rtgs_cli_arguments.specs.CommandLine as line;
 
 use clap::error::ErrorKind;

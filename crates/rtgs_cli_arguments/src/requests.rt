@@ -7,6 +7,6 @@ mod request;
 mod spelling;
 
 pub use crate::requests::command_words::CommandWords;
-pub use crate::requests::judging::read_request;
+pub use crate::requests::judging::judge_request;
 pub use crate::requests::reading_words::ReadingWords;
 pub use crate::requests::request::{JudgedRequest, Request, Words};

@@ -1,7 +1,7 @@
 //! The server, as the command line names it.
 ghost use Rattle.std.specs.Prelude.{◌≡◌, IfOk, codes, false, true};
 ghost use Rattle.clap.specs.Words.{found_of, rows_of, rule_of};
-ghost use Rattle.rtgs_cli_arguments.specs.Asked.{AreWordsOfRun, IsChosen, IsNumber};
+ghost use Rattle.rtgs_cli_arguments.specs.Invocation.{AreWordsOfRun, IsChosen, IsNumber};
 ghost use Rattle.rtgs_cli_arguments.specs.CommandLine as line;
 
 use crate::requests::{Request, Words};

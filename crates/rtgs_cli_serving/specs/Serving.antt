@@ -17,7 +17,7 @@ use Rattle.rtgs_cli_lines.specs.declared.failure.Failure.{Failure}
 use Rattle.rtgs_cli_lines.specs.declared.failure.Failure.TheVariants.{Refused, NoListen}
 use Rattle.rtgs_cli_lines.specs.declared.printed.Printed.{Printed}
 use Rattle.rtgs_cli_lines.specs.declared.printed.Printed.TheVariants.{Whole}
-use Rattle.rtgs_http_server.specs.banks.Handling.{Makes}
+use Rattle.rtgs_http_server.specs.exchange.Handling.{Makes}
 use Rattle.rtgs_http_server.specs.Requests.{AreAsked}
 use Rattle.rtgs_http_server.specs.declared.port.Port.{Port}
 use Rattle.rtgs_book_file.specs.OverFile.{OverFile}

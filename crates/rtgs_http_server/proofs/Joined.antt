@@ -11,11 +11,11 @@ use Rattle.rtgs_desk.specs.Seen.{Seen}
 use Rattle.rtgs_http_server.specs.input.Input.{OfInput}
 use Rattle.rtgs_http_server.specs.declared.input.reader_failed.ReaderFailed.{ReaderFailed}
 use Rattle.rtgs_http_bodies.specs.replies.Messages.{Message}
-use Rattle.rtgs_http_server.specs.banks.Handling.{Makes, given}
-use Rattle.rtgs_http_server.specs.banks.Exchange.{Exchanges}
-use Rattle.rtgs_http_server.specs.banks.Serving.{Serves}
-use Rattle.rtgs_http_server.specs.declared.banks.served.Served.{Served}
-use Rattle.rtgs_http_server.specs.declared.banks.served.Served.TheVariants.{Answered, ReadFault, WriteFault}
+use Rattle.rtgs_http_server.specs.exchange.Handling.{Makes, given}
+use Rattle.rtgs_http_server.specs.exchange.Exchange.{Exchanges}
+use Rattle.rtgs_http_server.specs.exchange.Serving.{Serves}
+use Rattle.rtgs_http_server.specs.declared.exchange.served.Served.{Served}
+use Rattle.rtgs_http_server.specs.declared.exchange.served.Served.TheVariants.{Answered, ReadFault, WriteFault}
 use Rattle.rtgs_http_server.specs.Requests.{IsAsked, WorksForAll, and_then}
 
 -- the reader's bytes are an input, whether they are known or not

@@ -5,7 +5,7 @@ use Rattle.rtgs_book.specs.declared.book.Book.{Book}
 use Rattle.rtgs_keeper.specs.declared.keeper.Keeper.{Ghosts}
 use Rattle.rtgs_desk.specs.Holding.{Holds}
 use Rattle.rtgs_desk.specs.Seen.{Seen}
-use Rattle.rtgs_http_server.specs.banks.Handling.{Makes}
+use Rattle.rtgs_http_server.specs.exchange.Handling.{Makes}
 use Rattle.rtgs_http_server.specs.Requests.{WorksForAll, nothing}
 
 pub at_rest : {K : Type 0} (g : Ghosts K) (operator : List ℕ) (book : Book) (desk : Seen K) → Holds g desk book

@@ -1,4 +1,4 @@
 pub mod Requests
-pub mod banks
+pub mod exchange
 pub mod input
 pub mod reply_laws

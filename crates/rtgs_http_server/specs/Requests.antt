@@ -11,8 +11,8 @@ use Rattle.rtgs_desk.specs.Seen.{Seen}
 use Rattle.rtgs_http_requests.specs.Exchange.{AsksFor}
 use Rattle.rtgs_http_requests.specs.declared.asked.Asked.{Asked}
 use Rattle.rtgs_http_requests.specs.declared.http_fault.HttpFault.{HttpFault}
-use Rattle.rtgs_http_server.specs.banks.Handling.{Makes, given}
-use Rattle.rtgs_http_server.specs.banks.Exchange.{IsAllowed}
+use Rattle.rtgs_http_server.specs.exchange.Handling.{Makes, given}
+use Rattle.rtgs_http_server.specs.exchange.Exchange.{IsAllowed}
 
 -- an input asks for this, as it may, under the operator's digest and the digests that the book's participants have
 pub record IsAsked (operator : List ℕ) (book : Book) (input : List ℕ) (answer : Result Asked HttpFault)

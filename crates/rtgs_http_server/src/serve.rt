@@ -4,9 +4,9 @@ ghost use Rattle.rtgs_book.specs.declared.book.Book.{Book};
 ghost use Rattle.rtgs_desk.specs.Holding.{Holds};
 ghost use Rattle.rtgs_http_server.specs.Requests.{WorksForAll};
 
-use crate::banks::laws::requests_join;
-use crate::banks::{Served, serve_one};
 use crate::connections::Connections;
+use crate::exchange::laws::requests_join;
+use crate::exchange::{Served, serve_one};
 use crate::laws::a_desk_at_rest_works_for_all;
 use rtgs_desk::Desk;
 use rtgs_keeper::Keeper;

@@ -8,11 +8,11 @@ use Rattle.rtgs_book.specs.Outcome.{Reply}
 use Rattle.rtgs_book.specs.Session.{IsSession}
 use Rattle.rtgs_desk.specs.batches.Batches.{orders_of}
 use Rattle.rtgs_book.specs.declared.new_order.NewOrder.{NewOrder}
-use Rattle.rtgs_http_server.specs.declared.banks.served.Served.{Served}
-use Rattle.rtgs_http_server.specs.declared.banks.served.Served.TheVariants.{Answered, ReadFault, WriteFault}
-use Rattle.rtgs_http_server.specs.banks.Handling.{given}
-use Rattle.rtgs_http_server.specs.banks.Exchange.{IsAllowed}
-use Rattle.rtgs_http_server.specs.banks.Serving.{Sends, Serves}
+use Rattle.rtgs_http_server.specs.declared.exchange.served.Served.{Served}
+use Rattle.rtgs_http_server.specs.declared.exchange.served.Served.TheVariants.{Answered, ReadFault, WriteFault}
+use Rattle.rtgs_http_server.specs.exchange.Handling.{given}
+use Rattle.rtgs_http_server.specs.exchange.Exchange.{IsAllowed}
+use Rattle.rtgs_http_server.specs.exchange.Serving.{Sends, Serves}
 use Rattle.rtgs_http_server.specs.input.Input.{OfInput}
 use Rattle.rtgs_http_bodies.specs.replies.Messages.{Message}
 use Rattle.rtgs_http_requests.specs.Access.{IsCommandOf}

@@ -9,11 +9,11 @@ use Rattle.rtgs_ledger.specs.Keys.{code_under}
 use Rattle.rtgs_desk.specs.Seen.{Seen}
 use Rattle.rtgs_http_bodies.specs.replies.Messages.{Message}
 use Rattle.rtgs_http_requests.specs.Access.{CarriesKey, IsCommandOf}
-use Rattle.rtgs_http_server.specs.banks.Handling.{given}
-use Rattle.rtgs_http_server.specs.banks.Exchange.{Handles}
-use Rattle.rtgs_http_server.specs.banks.Serving.{Serves}
-use Rattle.rtgs_http_server.specs.declared.banks.served.Served.{Served}
-use Rattle.rtgs_http_server.specs.declared.banks.served.Served.TheVariants.{ReadFault}
+use Rattle.rtgs_http_server.specs.exchange.Handling.{given}
+use Rattle.rtgs_http_server.specs.exchange.Exchange.{Handles}
+use Rattle.rtgs_http_server.specs.exchange.Serving.{Serves}
+use Rattle.rtgs_http_server.specs.declared.exchange.served.Served.{Served}
+use Rattle.rtgs_http_server.specs.declared.exchange.served.Served.TheVariants.{ReadFault}
 use Rattle.rtgs_http_server.specs.declared.input.reader_failed.ReaderFailed.{ReaderFailed}
 use Rattle.rtgs_promises.specs.Headline.{IsHeadline}
 

@@ -11,8 +11,8 @@ ghost use Rattle.rtgs_book.specs.declared.book.Book.{Book};
 ghost use Rattle.rtgs_book.specs.declared.reading.Reading.{Reading};
 ghost use Rattle.rtgs_desk.specs.Holding.{Holds};
 ghost use Rattle.rtgs_desk.specs.Seen.{Seen};
-ghost use Rattle.rtgs_http_server.specs.banks.Handling.{given};
-ghost use Rattle.rtgs_http_server.specs.banks.Exchange.{Handles, Exchanges, IsAskedByBearer};
+ghost use Rattle.rtgs_http_server.specs.exchange.Handling.{given};
+ghost use Rattle.rtgs_http_server.specs.exchange.Exchange.{Handles, Exchanges, IsAskedByBearer};
 ghost use Rattle.rtgs_http_server.specs.reply_laws.Alike.{EndAlike};
 ghost use Rattle.rtgs_http_server.specs.reply_laws.Own.{AgreeFor, IsSentBy};
 ghost use Rattle.rtgs_http_bodies.specs.replies.Messages.{Message};
@@ -47,15 +47,15 @@ use std::io::{Read, Write};
 /// bytes ask for, and the bearer of the key may give them; and the stop that comes then leaves what promise 1 says.
 /// Where the reader fails, nothing was done. So it is with whatever a crash leaves where no desk opens again.
 // To judge it, read these 85 files, 542 definitions: rtgs_promises Headline, Keys; rtgs_desk Holding, Seen,
-// batches.Batches, batches.Sent, Replies, Readings; rtgs_http_server banks.Serving, banks.Exchange, banks.Handling,
-// input.Input, banks.ReplyMessages; rtgs_rows Content, Keeping, Fitting, Tables, Dues, Rows; rtgs_book Calm, Soundness,
-// cores.Cores, Session, Run, Laws, Ranges, Procedure, Refusals, Standings; rtgs_http_bodies replies.Messages,
-// desks.Written, replies.Kinds, Refusals, Statuses, Answers, replies.Texts, replies.Bodies, Readings, desks.Accounts;
-// rtgs_output Sent; the ten of a command; rtgs_http_requests Exchange, Access, Callers, Meaning, Steps, Bodies,
-// heads.Targets, feeds.Region, heads.Heads, heads.Fields, Faults, heads.Tables, Contents; rtgs_ledger Keys, Kept;
-// rtgs_laws repeats.Lives, repeats.Lasting, repeats.Batch, repeats.Repeats, repeats.Once; rtgs_money Forms, Amounts,
-// Lexical, Digits, Units; rtgs_order_files Results, BatchFaults, OrderFile; rtgs_refusals Table; rtgs_statements Texts,
-// Records, Lines, Sums, Tallies, Columns.
+// batches.Batches, batches.Sent, Replies, Readings; rtgs_http_server exchange.Serving, exchange.Exchange,
+// exchange.Handling, input.Input, exchange.ReplyMessages; rtgs_rows Content, Keeping, Fitting, Tables, Dues, Rows;
+// rtgs_book Calm, Soundness, cores.Cores, Session, Run, Laws, Ranges, Procedure, Refusals, Standings; rtgs_http_bodies
+// replies.Messages, desks.Written, replies.Kinds, Refusals, Statuses, Answers, replies.Texts, replies.Bodies, Readings,
+// desks.Accounts; rtgs_output Sent; the ten of a command; rtgs_http_requests Exchange, Access, Callers, Meaning, Steps,
+// Bodies, heads.Targets, feeds.Region, heads.Heads, heads.Fields, Faults, heads.Tables, Contents; rtgs_ledger Keys,
+// Kept; rtgs_laws repeats.Lives, repeats.Lasting, repeats.Batch, repeats.Repeats, repeats.Once; rtgs_money Forms,
+// Amounts, Lexical, Digits, Units; rtgs_order_files Results, BatchFaults, OrderFile; rtgs_refusals Table;
+// rtgs_statements Texts, Records, Lines, Sums, Tallies, Columns.
 pub fn serve_and_stop<R: Read, W: Write, S: Alter + Reopen + Drop>(
     alloc: Global,
     desk: Desk<SqlKeeper<S>>,
@@ -91,8 +91,8 @@ pub fn serve_and_stop<R: Read, W: Write, S: Alter + Reopen + Drop>(
 /// request's bytes. Set aside is lack of memory, and for the reply a fault of the store: the status is then 503.
 // To judge it, read these 75 files, 466 definitions: rtgs_desk Seen, Holding, batches.Batches, batches.Sent, Replies,
 // Readings; rtgs_http_bodies replies.Messages, desks.Written, replies.Kinds, Refusals, Statuses, Answers,
-// replies.Texts, replies.Bodies, Readings, desks.Accounts; rtgs_http_server banks.Exchange, reply_laws.Alike,
-// banks.Handling, banks.ReplyMessages; rtgs_http_requests Same, Exchange, Meaning, Callers, Steps, Bodies,
+// replies.Texts, replies.Bodies, Readings, desks.Accounts; rtgs_http_server exchange.Exchange, reply_laws.Alike,
+// exchange.Handling, exchange.ReplyMessages; rtgs_http_requests Same, Exchange, Meaning, Callers, Steps, Bodies,
 // heads.Targets, Access, feeds.Region, heads.Heads, heads.Fields, Faults, heads.Tables, Contents; rtgs_ledger Keys,
 // Kept; the ten of a command; rtgs_book Calm, Session, cores.Cores, Run, Soundness, Ranges, Laws, Refusals, Procedure,
 // Standings; rtgs_order_files Results, BatchFaults, OrderFile; rtgs_money Forms, Lexical, Amounts, Digits, Units;
@@ -117,13 +117,13 @@ pub fn a_book_and_an_input_have_one_reply<K: Keeper>()
 /// only where it asks for what the bearer of its key may ask.
 // To judge it, read these 76 files, 471 definitions: rtgs_promises Keys; rtgs_desk Seen, batches.Batches, Holding,
 // batches.Sent, Replies, Readings; rtgs_http_bodies replies.Messages, desks.Written, Refusals, replies.Kinds, Statuses,
-// Answers, replies.Texts, replies.Bodies, Readings, desks.Accounts; rtgs_http_server banks.Exchange, banks.Handling,
-// banks.ReplyMessages; rtgs_http_requests Access, Exchange, feeds.Region, heads.Heads, heads.Fields, Callers, Meaning,
-// Steps, Bodies, heads.Targets, Faults, Plans, heads.Tables, Contents; rtgs_ledger Keys, Kept; the ten of a command;
-// rtgs_book Calm, cores.Following, Session, cores.Cores, Refusals, Run, Soundness, Ranges, Laws, Procedure, Standings;
-// rtgs_money Forms, Lexical, Amounts, Digits, Units; rtgs_order_files Results, BatchFaults, OrderFile; rtgs_laws
-// repeats.Lasting, repeats.Batch, repeats.Repeats, repeats.Once; rtgs_refusals Table; rtgs_statements Texts, Records,
-// Lines, Sums, Tallies, Columns.
+// Answers, replies.Texts, replies.Bodies, Readings, desks.Accounts; rtgs_http_server exchange.Exchange,
+// exchange.Handling, exchange.ReplyMessages; rtgs_http_requests Access, Exchange, feeds.Region, heads.Heads,
+// heads.Fields, Callers, Meaning, Steps, Bodies, heads.Targets, Faults, Plans, heads.Tables, Contents; rtgs_ledger
+// Keys, Kept; the ten of a command; rtgs_book Calm, cores.Following, Session, cores.Cores, Refusals, Run, Soundness,
+// Ranges, Laws, Procedure, Standings; rtgs_money Forms, Lexical, Amounts, Digits, Units; rtgs_order_files Results,
+// BatchFaults, OrderFile; rtgs_laws repeats.Lasting, repeats.Batch, repeats.Repeats, repeats.Once; rtgs_refusals Table;
+// rtgs_statements Texts, Records, Lines, Sums, Tallies, Columns.
 pub fn nobody_acts_with_the_key_of_another<K: Keeper>()
     ensures commands { (operator input : List ℕ) (book : Book) (desk : Seen K) (sent : Message)
         (request : Handles K.Keeper operator book input desk sent)
@@ -137,8 +137,8 @@ pub fn nobody_acts_with_the_key_of_another<K: Keeper>()
 /// reply to each reading that carries its key. Set aside are replies with the status 503.
 // To judge it, read these 74 files, 467 definitions: rtgs_desk Seen, Holding, batches.Batches, batches.Sent, Replies,
 // Readings; rtgs_http_bodies replies.Messages, desks.Written, replies.Kinds, Refusals, Statuses, Answers,
-// replies.Texts, replies.Bodies, Readings, desks.Accounts; rtgs_http_server reply_laws.Own, banks.Exchange,
-// banks.Handling, banks.ReplyMessages; rtgs_http_requests Exchange, Access, Callers, Meaning, Steps, Bodies,
+// replies.Texts, replies.Bodies, Readings, desks.Accounts; rtgs_http_server reply_laws.Own, exchange.Exchange,
+// exchange.Handling, exchange.ReplyMessages; rtgs_http_requests Exchange, Access, Callers, Meaning, Steps, Bodies,
 // heads.Targets, feeds.Region, heads.Heads, heads.Fields, heads.Tables, Faults, Contents; rtgs_ledger Keys, Kept; the
 // ten of a command; rtgs_money Forms, Lexical, Amounts, Digits, Units; rtgs_order_files Results, OrderFile,
 // BatchFaults; rtgs_book Calm, Session, Run, cores.Cores, Laws, Refusals, Soundness, Ranges, Procedure, Standings;

@@ -7,4 +7,4 @@ returns c =
     let is = c.in_ok-desk_command.ensures in
     let parse = c.in_ok-matches.ensures in
     let met = meets_one _ c.in_ok-matches.matches is parse.parsed (parse.subcommand is.1) in
-    IfOk-weaker c.asked_of.result _ _ (λ asked it. (c.in_ok-matches.matches, met, it)) c.asked_of.ensures
+    IfOk-weaker c.invocation_of.result _ _ (λ asked it. (c.in_ok-matches.matches, met, it)) c.invocation_of.ensures

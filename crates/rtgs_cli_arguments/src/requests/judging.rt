@@ -7,7 +7,7 @@ use crate::requests::spelling::{read_code, read_key};
 use rtgs_money::Lexical;
 
 /// The request, or the refusal of the first word, from the left, that is not of its form.
-pub fn read_request<'a>(words: &Words<'a>) -> Result<JudgedRequest<'a>, Lexical>
+pub fn judge_request<'a>(words: &Words<'a>) -> Result<JudgedRequest<'a>, Lexical>
     ensures { ReadsRequest words.now result }
 {
     match *words {

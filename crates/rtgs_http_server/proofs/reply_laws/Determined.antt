@@ -31,10 +31,10 @@ use Rattle.rtgs_http_requests.specs.declared.http_fault.HttpFault.{HttpFault}
 use Rattle.rtgs_http_requests.specs.declared.http_fault.HttpFault.TheVariants.{OutOfMemory}
 use Rattle.rtgs_book.specs.declared.reading.Reading.{Reading}
 use Rattle.rtgs_http_server.specs.reply_laws.Alike.{EndAlike}
-use Rattle.rtgs_http_server.specs.banks.Handling.{ComesTo, Submits, SubmitsAll, Reads, IsReadOf}
-use Rattle.rtgs_http_server.specs.banks.Exchange.{Handles}
-use Rattle.rtgs_http_server.specs.banks.ReplyMessages.{IsSaid, IsSentOrLost, fault_message, reply_message}
-use Rattle.rtgs_http_server.specs.banks.ReplyMessages.{reading_message}
+use Rattle.rtgs_http_server.specs.exchange.Handling.{ComesTo, Submits, SubmitsAll, Reads, IsReadOf}
+use Rattle.rtgs_http_server.specs.exchange.Exchange.{Handles}
+use Rattle.rtgs_http_server.specs.exchange.ReplyMessages.{IsSaid, IsSentOrLost, fault_message, reply_message}
+use Rattle.rtgs_http_server.specs.exchange.ReplyMessages.{reading_message}
 
 -- a step has one outcome
 abbrev pub StepsOnce : Type 0

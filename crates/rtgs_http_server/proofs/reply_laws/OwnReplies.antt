@@ -14,10 +14,10 @@ use Rattle.rtgs_http_requests.specs.declared.asked.Asked.TheVariants.{Submit, Ba
 use Rattle.rtgs_book.specs.declared.reading.Reading.{Reading}
 use Rattle.rtgs_keeper.specs.declared.keeper.Keeper.{Ghosts}
 use Rattle.rtgs_ledger.specs.Keys.{code_under}
-use Rattle.rtgs_http_server.specs.banks.Handling.{ComesTo, Reads}
-use Rattle.rtgs_http_server.specs.banks.Exchange.{Handles}
+use Rattle.rtgs_http_server.specs.exchange.Handling.{ComesTo, Reads}
+use Rattle.rtgs_http_server.specs.exchange.Exchange.{Handles}
 use Rattle.rtgs_http_server.specs.reply_laws.Own.{AgreeFor, IsSentBy}
-use Rattle.rtgs_http_server.specs.banks.ReplyMessages.{reading_message}
+use Rattle.rtgs_http_server.specs.exchange.ReplyMessages.{reading_message}
 use Rattle.rtgs_http_server.proofs.reply_laws.Callers.{KeysOnce, key_once, asked_alike}
 use Rattle.rtgs_http_server.proofs.reply_laws.Determined.{AsksOnce, read_of, wanting}
 use Rattle.rtgs_http_server.proofs.reply_laws.OwnRows.{own_rows}

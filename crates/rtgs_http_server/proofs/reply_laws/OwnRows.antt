@@ -18,7 +18,7 @@ use Rattle.rtgs_book.specs.declared.reading.Reading.{Reading}
 use Rattle.rtgs_book.specs.declared.reading.Reading.TheVariants as reading
 use Rattle.rtgs_statements.specs.Records.{is_posting_of, is_order_of, is_posted_on, is_ordered_on}
 use Rattle.rtgs_http_server.specs.reply_laws.Own.{AgreeFor, concerns, is_posted_to}
-use Rattle.rtgs_http_server.specs.banks.ReplyMessages.{reading_message}
+use Rattle.rtgs_http_server.specs.exchange.ReplyMessages.{reading_message}
 use Rattle.rtgs_lists.proofs.Bools.{and_left, and_right, or_left_false, or_right_false}
 
 or_left : (a b : Bool) → a ≡ true → (a || b) ≡ true

@@ -20,10 +20,10 @@ use Rattle.rtgs_keeper.specs.declared.keeper.Keeper.{Ghosts}
 use Rattle.rtgs_ledger.specs.Keys.{code_under}
 use Rattle.rtgs_laws.specs.repeats.Repeats.{acts_once, answered_number, IsRepeat}
 use Rattle.rtgs_http_server.specs.reply_laws.Again.{IsRepeatedBy}
-use Rattle.rtgs_http_server.specs.banks.Handling.{ComesTo, Submits}
-use Rattle.rtgs_http_server.specs.banks.Exchange.{Handles}
+use Rattle.rtgs_http_server.specs.exchange.Handling.{ComesTo, Submits}
+use Rattle.rtgs_http_server.specs.exchange.Exchange.{Handles}
 use Rattle.rtgs_http_server.specs.reply_laws.Own.{IsSentBy}
-use Rattle.rtgs_http_server.specs.banks.ReplyMessages.{reply_message}
+use Rattle.rtgs_http_server.specs.exchange.ReplyMessages.{reply_message}
 use Rattle.rtgs_http_server.proofs.reply_laws.Callers.{KeysOnce, asked_alike}
 use Rattle.rtgs_http_server.proofs.reply_laws.Determined.{AsksOnce, StepsOnce, sent_is, judged, wanting}
 use Rattle.rtgs_http_server.proofs.reply_laws.OwnReplies.{AskOwn, own_asked, same_bearer}

@@ -5,7 +5,7 @@ use Rattle.rtgs_book.specs.declared.book.Book.{Book}
 use Rattle.rtgs_book.specs.declared.command.Command.{Command}
 use Rattle.rtgs_desk.specs.Holding.{Holds}
 use Rattle.rtgs_desk.specs.Seen.{Seen}
-use Rattle.rtgs_http_server.specs.banks.ReplyMessages.{reply_message}
+use Rattle.rtgs_http_server.specs.exchange.ReplyMessages.{reply_message}
 use Rattle.rtgs_http_bodies.specs.replies.Messages.{Message}
 use Rattle.rtgs_keeper.specs.declared.keeper.Keeper.{Ghosts}
 use Rattle.rtgs_laws.specs.repeats.Repeats.{IsRepeat}
