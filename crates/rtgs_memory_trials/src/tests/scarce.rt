@@ -22,7 +22,7 @@ pub use judged::same;
 pub use limit::{for_each_refusal, for_no_more_requests, for_no_request, in_a_process, is_limited};
 pub use opening::Opens;
 pub use sending::{ORDERS, Sends, orders_desk};
-pub use serving::{ANSWER_LOST, OPERATOR, Serves, request_of};
+pub use serving::{ANSWER_LOST, OPERATOR, Sent, Serves, request_of, rows_of};
 pub use store::{InMemory, Store};
 pub use submitting::Submits;
 pub use taking_keeper::TakingKeeper;

@@ -16,7 +16,7 @@ impl Call for Reads {
     type Answer = Result<Vec<NewOrder>, BatchFault>;
 
     fn begin(&self, alloc: Global) -> Result<Vec<u8>, Fail> {
-        Ok(Vec::from_slice(alloc, ORDERS)?)
+        Ok(Vec::from_slice(alloc, ORDERS.as_bytes())?)
     }
 
     fn call(&self, alloc: Global, file: &mut Vec<u8>) -> Result<Vec<NewOrder>, BatchFault> {
@@ -46,7 +46,7 @@ fn a_file_is_read(rt: HostRuntime) -> Result<(), Fail> {
 
 #[test]
 fn a_batch(rt: HostRuntime) -> Result<(), Fail> {
-    let rows = read_orders(rt.alloc(), ORDERS)?;
+    let rows = read_orders(rt.alloc(), ORDERS.as_bytes())?;
     let sends = Sends {
         store: InMemory,
         sender: code("ALFA")?,

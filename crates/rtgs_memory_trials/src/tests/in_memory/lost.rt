@@ -1,14 +1,14 @@
 //! An order that is accepted, and whose reply finds no memory: it is answered that its answer is lost, and when it is
 //! sent again that it was accepted before.
-use super::super::scarce::setting::{KEYS, desk_after, desk_over, opens, posts};
+use super::super::scarce::setting::{ALFAS_KEY, FUNDED_DAY, desk_after};
 use super::super::scarce::{
-    ANSWER_LOST, Held, OPERATOR, TakingKeeper, in_a_process, is_limited, request_of, same,
+    ANSWER_LOST, Held, OPERATOR, Sent, TakingKeeper, in_a_process, is_limited, request_of, same,
 };
 use rtgs_desk::Desk;
 use rtgs_http_server::serve_one;
 use rtgs_keeper::Keeper;
 use rtgs_money::Key;
-use rtgs_tests_desks::MemoryKeeper;
+use rtgs_tests_desks::{MemoryKeeper, desk_over};
 use std::alloc::Global;
 use std::cell::Cell;
 use std::test::Fail;
@@ -46,8 +46,12 @@ fn served<K: Keeper>(alloc: Global, desk: &mut Desk<K>, request: &String) -> Res
 // The answer to an order is lost while what its commit took is held. Once that is let go of, it is answered as
 // repeated. The order waits, since its one row gives back less memory, once it is adopted, than a reply needs.
 fn is_lost<K: Keeper>(alloc: Global, desk: &mut Desk<K>, held: &Holding) -> Result<(), Fail> {
-    let body = "{\"amount\":200,\"reference\":\"A-1\",\"to\":\"BETA\"}";
-    let request = request_of(alloc, KEYS[0], "POST /orders", body)?;
+    let sent = Sent {
+        key: ALFAS_KEY,
+        line: "POST /orders",
+        body: "{\"amount\":200,\"reference\":\"A-1\",\"to\":\"BETA\"}",
+    };
+    let request = request_of(alloc, &sent)?;
     let lost = served(alloc, desk, &request)?;
     free(held)?;
     let wanted = std::str::from_utf8(ANSWER_LOST)?;
@@ -61,8 +65,7 @@ fn an_order_is_accepted(rt: HostRuntime) -> Result<(), Fail> {
     if !is_limited(&rt) {
         return in_a_process(&rt, "tests::in_memory::lost::an_order_is_accepted");
     }
-    let before = [posts("ALFA", "P-1", 150)?, opens()?];
-    let desk = desk_after(rt.alloc(), MemoryKeeper::new(rt.alloc()), &before)?;
+    let desk = desk_after(rt.alloc(), MemoryKeeper::new(rt.alloc()), FUNDED_DAY)?;
     let held = Cell::new(None);
     let keeper = TakingKeeper::new(rt.alloc(), desk.into_keeper(), &held);
     let mut desk = desk_over(rt.alloc(), keeper)?;

@@ -1,16 +1,14 @@
 //! Calls that make no request for memory: they go well where there is none.
-use super::super::scarce::setting::{
-    KEYS, MONDAY, TUESDAY, adds, code, date, limits, opens, opens_automatic, opens_on, pays,
-    pays_on,
-};
+use super::super::scarce::setting::code;
 use super::super::scarce::{Held, had_none, in_a_process, is_limited, is_none_left};
 use rtgs_book::{Command, Found, NewOrder};
 use rtgs_gridlock::{Payment, Position, Positions, Queues, Workspace, greatest};
 use rtgs_http_bodies::Reply;
 use rtgs_keeper::Keeper;
 use rtgs_ledger::Ledger;
+use rtgs_money::BusinessDate;
 use rtgs_output::WriterFailed;
-use rtgs_tests_desks::MemoryKeeper;
+use rtgs_tests_desks::{MemoryKeeper, command};
 use std::alloc::Global;
 use std::process::Abort;
 use std::test::Fail;
@@ -72,26 +70,6 @@ fn ledger_of<K: Keeper>(alloc: Global, keeper: &mut K) -> Result<Ledger, Fail> {
     Ok(Ledger::load(alloc, core)?)
 }
 
-// Two banks are added, and a day is opened.
-fn two_banks() -> Result<[Command; 4], Fail> {
-    Ok([
-        adds("ALFA", KEYS[0])?,
-        adds("BETA", KEYS[1])?,
-        limits("ALFA", 100)?,
-        opens()?,
-    ])
-}
-
-// A ledger of two banks, on an open day.
-fn ledger_of_two(alloc: Global) -> Result<Ledger, Fail> {
-    let mut ledger = ledger_of(alloc, &mut MemoryKeeper::new(alloc))?;
-    for command in two_banks()? {
-        let (_, change) = ledger.prepare(&command, &Found::NOTHING)?;
-        ledger.adopt(change);
-    }
-    Ok(ledger)
-}
-
 // What a bank has in cents, and how many of its orders wait.
 fn standing(ledger: &Ledger, bank: &str) -> Result<(i64, usize), Fail> {
     let bank = code(bank)?;
@@ -109,60 +87,58 @@ fn adopt_without_memory(alloc: Global, ledger: &mut Ledger, command: &Command) -
     had_none(is_none)
 }
 
-// How ALFA and BETA stand once an order of so many cents is adopted so.
-fn order_adopted(alloc: Global, cents: u64) -> Result<[(i64, usize); 2], Fail> {
-    // Names the type of orders for the borrow checker, which finds it nowhere else in this function.
-    let _no_order: Option<NewOrder> = None;
-    let mut ledger = ledger_of_two(alloc)?;
-    let order = pays("ALFA", "A-1", "BETA", cents)?;
-    adopt_without_memory(alloc, &mut ledger, &order)?;
-    Ok([standing(&ledger, "ALFA")?, standing(&ledger, "BETA")?])
-}
-
-// How they stand where two orders for the next day are adopted so, and then the end of the day and the next one, which
-// lets them in.
-fn held_orders_adopted(alloc: Global) -> Result<[(i64, usize); 2], Fail> {
-    let mut ledger = ledger_of_two(alloc)?;
-    let monday = date(MONDAY)?;
-    let commands = [
-        pays_on("A-1", 100, TUESDAY)?,
-        pays_on("A-2", 7, TUESDAY)?,
-        Command::CutOff(monday),
-        Command::CloseDay(monday),
-        opens_on(TUESDAY, false)?,
-    ];
-    for command in commands {
-        adopt_without_memory(alloc, &mut ledger, &command)?;
-    }
-    Ok([standing(&ledger, "ALFA")?, standing(&ledger, "BETA")?])
-}
-
-// How they stand where an order of BETA is adopted so with what it frees on an automatic day: an order of ALFA.
-fn followed_order_adopted(alloc: Global) -> Result<[(i64, usize); 2], Fail> {
+// How ALFA and BETA stand once the commands of a script are adopted so, in a new book.
+fn script_adopted(alloc: Global, script: &str) -> Result<[(i64, usize); 2], Fail> {
+    // Names the types of orders and of due dates for the borrow checker: they stand nowhere else in this function.
+    let (_no_order, _no_date): (Option<NewOrder>, Option<BusinessDate>) = (None, None);
     let mut ledger = ledger_of(alloc, &mut MemoryKeeper::new(alloc))?;
-    let commands = [
-        adds("ALFA", KEYS[0])?,
-        adds("BETA", KEYS[1])?,
-        limits("ALFA", 10)?,
-        opens_automatic()?,
-        pays("ALFA", "A-1", "BETA", 60)?,
-        pays("BETA", "B-1", "ALFA", 50)?,
-    ];
-    for command in commands {
-        adopt_without_memory(alloc, &mut ledger, &command)?;
+    for line in script.lines() {
+        adopt_without_memory(alloc, &mut ledger, &command(line)?)?;
     }
     Ok([standing(&ledger, "ALFA")?, standing(&ledger, "BETA")?])
 }
+
+// The same after two banks are added, of which ALFA has a limit of so many cents.
+fn adopted(alloc: Global, limit: &str, lines: &str) -> Result<[(i64, usize); 2], Fail> {
+    let script = format!(in alloc; "{TWO_BANKS}credit ALFA {limit}\n{lines}")?;
+    script_adopted(alloc, script.as_str())
+}
+
+/// Two banks.
+const TWO_BANKS: &str = "\
+add ALFA 0000000000000000000000000000000a
+add BETA 0000000000000000000000000000000b
+";
+
+/// Two orders for the next day, and then the end of the day and the next one, which lets them in.
+const HELD_ORDERS: &str = "\
+open 2024-03-04
+order ALFA A-1 BETA 100 due 2024-03-05
+order ALFA A-2 BETA 7 due 2024-03-05
+cutoff 2024-03-04
+close 2024-03-04
+open 2024-03-05";
+
+/// An order of BETA that frees one of ALFA on an automatic day.
+const FREEING_ORDER: &str = "\
+open 2024-03-04 automatic
+order ALFA A-1 BETA 60
+order BETA B-1 ALFA 50";
 
 #[test]
 fn adopt(rt: HostRuntime) -> Result<(), Fail> {
     if !is_limited(&rt) {
         return in_a_process(&rt, "tests::in_memory::nothing::adopt");
     }
-    assert_eq!(rt; order_adopted(rt.alloc(), 100)?, [(-100, 0), (100, 0)]);
-    assert_eq!(rt; order_adopted(rt.alloc(), 101)?, [(0, 1), (0, 0)]);
-    assert_eq!(rt; held_orders_adopted(rt.alloc())?, [(0, 2), (0, 0)]);
-    assert_eq!(rt; followed_order_adopted(rt.alloc())?, [(-10, 0), (10, 0)]);
+    let settled = "open 2024-03-04\norder ALFA A-1 BETA 100";
+    let queued = "open 2024-03-04\norder ALFA A-1 BETA 101";
+    assert_eq!(rt; adopted(rt.alloc(), "100", settled)?, [(-100, 0), (100, 0)]);
+    assert_eq!(rt; adopted(rt.alloc(), "100", queued)?, [(0, 1), (0, 0)]);
+    assert_eq!(rt; adopted(rt.alloc(), "100", HELD_ORDERS)?, [(0, 2), (0, 0)]);
+    assert_eq!(rt;
+        adopted(rt.alloc(), "10", FREEING_ORDER)?,
+        [(-10, 0), (10, 0)]
+    );
     Ok(())
 }
 

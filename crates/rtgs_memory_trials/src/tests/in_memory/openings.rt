@@ -1,29 +1,24 @@
 //! Desks that are opened.
-use super::super::scarce::setting::{automatic_day, day};
+use super::super::scarce::setting::{AUTOMATIC_DAY, DAY};
 use super::super::scarce::{InMemory, Opens, for_each_refusal};
-use rtgs_book::Command;
 use std::test::Fail;
 
-// Tries the opening of a desk in memory after these commands. The name is that of the test.
-fn tries(rt: &HostRuntime, name: &str, before: &[Command]) -> Result<(), Fail> {
+// Tries the opening of a desk in memory after the commands of a script. The test has this name.
+fn tries(rt: &HostRuntime, name: &str, before: &str) -> Result<(), Fail> {
     let opens = Opens {
         store: InMemory,
         before,
     };
-    for_each_refusal(rt, name, &opens, 1)
+    let test = format!(in rt.alloc(); "tests::in_memory::openings::{name}")?;
+    for_each_refusal(rt, test.as_str(), &opens, 1)
 }
 
 #[test]
 fn of_a_day(rt: HostRuntime) -> Result<(), Fail> {
-    tries(&rt, "tests::in_memory::openings::of_a_day", &day()?)
+    tries(&rt, "of_a_day", DAY)
 }
 
 #[test]
 fn of_an_automatic_day(rt: HostRuntime) -> Result<(), Fail> {
-    let before = automatic_day()?;
-    tries(
-        &rt,
-        "tests::in_memory::openings::of_an_automatic_day",
-        &before,
-    )
+    tries(&rt, "of_an_automatic_day", AUTOMATIC_DAY)
 }

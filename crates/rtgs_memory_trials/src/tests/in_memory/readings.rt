@@ -1,5 +1,5 @@
 //! Readings.
-use super::super::scarce::setting::{KEYS, MONDAY, code, date, reference};
+use super::super::scarce::setting::{ALFAS_KEY, MONDAY, code, date, reference};
 use super::super::scarce::{Asks, InMemory, Question, for_each_refusal, for_no_request};
 use rtgs_book::Reading;
 use rtgs_money::Key;
@@ -73,7 +73,7 @@ fn report(rt: HostRuntime) -> Result<(), Fail> {
 fn code_of(rt: HostRuntime) -> Result<(), Fail> {
     let asks = Asks {
         store: InMemory,
-        question: Question::CodeOf(Key::read(KEYS[0].as_bytes())?.digest()),
+        question: Question::CodeOf(Key::read(ALFAS_KEY.as_bytes())?.digest()),
     };
     for_no_request(&rt, "tests::in_memory::readings::code_of", &asks)
 }

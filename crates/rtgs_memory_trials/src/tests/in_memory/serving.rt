@@ -1,133 +1,106 @@
 //! Requests over HTTP.
-use super::super::scarce::setting::{KEYS, opens, opens_automatic, pays, posts};
+use super::super::scarce::setting::{ALFAS_KEY, BETAS_KEY, FUNDED_DAY};
 use super::super::scarce::{
-    InMemory, OPERATOR, ORDERS, Serves, Worked, for_each_refusal, request_of,
+    InMemory, OPERATOR, Sent, Serves, Worked, for_each_refusal, request_of, rows_of,
 };
-use rtgs_book::{Command, NewOrder};
 use rtgs_money::Key;
-use rtgs_order_files::read_orders;
 use std::test::Fail;
 
-// Serves this request to a desk in memory, after these commands. It has these rows where it is a batch.
-fn tries_rows(
-    rt: &HostRuntime,
-    name: &str,
-    before: &[Command],
-    request: &String,
-    rows: &[NewOrder],
-) -> Result<(), Fail> {
+// Sends a request to a desk in memory, after the commands of a script. The test has this name.
+fn tries_after(rt: &HostRuntime, name: &str, before: &str, sent: &Sent) -> Result<(), Fail> {
+    let rows = rows_of(rt.alloc(), sent)?;
+    let request = request_of(rt.alloc(), sent)?;
     let call = Serves {
         store: InMemory,
         before,
         request: request.as_bytes(),
         operator: Key::read(OPERATOR.as_bytes())?.digest(),
-        rows,
+        rows: rows.as_slice(),
     };
-    for_each_refusal(rt, name, &call, 1)
+    let test = format!(in rt.alloc(); "tests::in_memory::serving::{name}")?;
+    for_each_refusal(rt, test.as_str(), &call, 1)
 }
 
-// The same of a request that is no batch.
-fn tries_after(
-    rt: &HostRuntime,
-    name: &str,
-    before: &[Command],
-    request: &String,
-) -> Result<(), Fail> {
-    tries_rows(rt, name, before, request, &[])
-}
-
-// The same after a posting to ALFA and whatever else is given.
-fn tries(rt: &HostRuntime, name: &str, orders: &[Command], request: &String) -> Result<(), Fail> {
-    let mut before = vec![in rt.alloc(); posts("ALFA", "P-1", 150)?, opens()?]?;
-    before.extend_from_slice(orders)?;
-    tries_after(rt, name, before.as_slice(), request)
+// The same on an open day on which ALFA has 150 cents.
+fn tries(rt: &HostRuntime, name: &str, sent: &Sent) -> Result<(), Fail> {
+    tries_after(rt, name, FUNDED_DAY, sent)
 }
 
 #[test]
 fn an_order_that_settles(rt: HostRuntime) -> Result<(), Fail> {
-    let body = "{\"amount\":100,\"reference\":\"A-1\",\"to\":\"BETA\"}";
-    let request = request_of(rt.alloc(), KEYS[0], "POST /orders", body)?;
-    tries(
-        &rt,
-        "tests::in_memory::serving::an_order_that_settles",
-        &[],
-        &request,
-    )
+    let sent = Sent {
+        key: ALFAS_KEY,
+        line: "POST /orders",
+        body: "{\"amount\":100,\"reference\":\"A-1\",\"to\":\"BETA\"}",
+    };
+    tries(&rt, "an_order_that_settles", &sent)
 }
 
 #[test]
 fn an_order_that_waits(rt: HostRuntime) -> Result<(), Fail> {
-    let body = "{\"amount\":100,\"reference\":\"B-1\",\"to\":\"ALFA\"}";
-    let request = request_of(rt.alloc(), KEYS[1], "POST /orders", body)?;
-    tries(
-        &rt,
-        "tests::in_memory::serving::an_order_that_waits",
-        &[],
-        &request,
-    )
+    let sent = Sent {
+        key: BETAS_KEY,
+        line: "POST /orders",
+        body: "{\"amount\":100,\"reference\":\"B-1\",\"to\":\"ALFA\"}",
+    };
+    tries(&rt, "an_order_that_waits", &sent)
 }
 
 #[test]
 fn a_batch(rt: HostRuntime) -> Result<(), Fail> {
-    let rows = read_orders(rt.alloc(), ORDERS)?;
-    let body = std::str::from_utf8(ORDERS)?;
-    let request = request_of(rt.alloc(), KEYS[0], "POST /batches", body)?;
-    tries_rows(
-        &rt,
-        "tests::in_memory::serving::a_batch",
-        &[posts("ALFA", "P-1", 150)?, opens()?],
-        &request,
-        rows.as_slice(),
-    )
+    tries(&rt, "a_batch", &Sent::BATCH)
 }
 
 #[test]
 fn a_reading(rt: HostRuntime) -> Result<(), Fail> {
-    let request = request_of(rt.alloc(), KEYS[0], "GET /account", "")?;
-    tries(&rt, "tests::in_memory::serving::a_reading", &[], &request)
+    let sent = Sent {
+        key: ALFAS_KEY,
+        line: "GET /account",
+        body: "",
+    };
+    tries(&rt, "a_reading", &sent)
 }
+
+/// The same day, on which two orders wait for each other.
+const GRIDLOCKED_DAY: &str = "\
+post ALFA P-1 150
+open 2024-03-04
+order BETA B-1 GAMA 7
+order GAMA G-1 BETA 7";
 
 #[test]
 fn a_resolution(rt: HostRuntime) -> Result<(), Fail> {
-    let orders = [
-        pays("BETA", "B-1", "GAMA", 7)?,
-        pays("GAMA", "G-1", "BETA", 7)?,
-    ];
-    let request = request_of(rt.alloc(), OPERATOR, "POST /desk/resolve", "{}")?;
-    tries(
-        &rt,
-        "tests::in_memory::serving::a_resolution",
-        &orders,
-        &request,
-    )
+    let sent = Sent {
+        key: OPERATOR,
+        line: "POST /desk/resolve",
+        body: "{}",
+    };
+    tries_after(&rt, "a_resolution", GRIDLOCKED_DAY, &sent)
 }
+
+/// An automatic day on which an order waits for money of BETA.
+const WAITING_DAY: &str = "\
+open 2024-03-04 automatic
+order ALFA A-1 BETA 60
+post BETA P-1 60";
 
 #[test]
 fn an_order_that_frees(rt: HostRuntime) -> Result<(), Fail> {
-    let before = [
-        opens_automatic()?,
-        pays("ALFA", "A-1", "BETA", 60)?,
-        posts("BETA", "P-1", 60)?,
-    ];
-    let body = "{\"amount\":60,\"reference\":\"B-1\",\"to\":\"ALFA\"}";
-    let request = request_of(rt.alloc(), KEYS[1], "POST /orders", body)?;
-    tries_after(
-        &rt,
-        "tests::in_memory::serving::an_order_that_frees",
-        &before,
-        &request,
-    )
+    let sent = Sent {
+        key: BETAS_KEY,
+        line: "POST /orders",
+        body: "{\"amount\":60,\"reference\":\"B-1\",\"to\":\"ALFA\"}",
+    };
+    tries_after(&rt, "an_order_that_frees", WAITING_DAY, &sent)
 }
 
 #[test]
 fn an_opening_that_frees(rt: HostRuntime) -> Result<(), Fail> {
-    let worked = Worked::open_day_that_frees(rt.alloc())?;
-    let body = "{\"automatic\":true,\"date\":\"2024-03-05\"}";
-    let request = request_of(rt.alloc(), OPERATOR, "POST /desk/open", body)?;
-    tries_after(
-        &rt,
-        "tests::in_memory::serving::an_opening_that_frees",
-        worked.before.as_slice(),
-        &request,
-    )
+    let sent = Sent {
+        key: OPERATOR,
+        line: "POST /desk/open",
+        body: "{\"automatic\":true,\"date\":\"2024-03-05\"}",
+    };
+    let worked = Worked::named("open_day_that_frees")?;
+    tries_after(&rt, "an_opening_that_frees", worked.before, &sent)
 }

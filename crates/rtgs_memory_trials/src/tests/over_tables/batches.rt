@@ -7,7 +7,7 @@ use std::test::Fail;
 
 #[test]
 fn a_batch(rt: HostRuntime) -> Result<(), Fail> {
-    let rows = read_orders(rt.alloc(), ORDERS)?;
+    let rows = read_orders(rt.alloc(), ORDERS.as_bytes())?;
     let sends = Sends {
         store: OverSql,
         sender: code("ALFA")?,

@@ -23,7 +23,7 @@ impl Call for Commits<'_> {
     type Answer = Result<(), CommitFault>;
 
     fn begin(&self, alloc: Global) -> Result<SqlKeeper<MemStore>, Fail> {
-        Ok(desk_after(alloc, OverSql.keeper(alloc)?, &[])?.into_keeper())
+        Ok(desk_after(alloc, OverSql.keeper(alloc)?, "")?.into_keeper())
     }
 
     fn call(&self, _alloc: Global, keeper: &mut SqlKeeper<MemStore>) -> Result<(), CommitFault> {

@@ -1,7 +1,7 @@
 //! Tables of each earlier version that are made those of the newest.
 ghost use Rattle.std.specs.Prelude.{◌≡◌, false};
 
-use super::super::scarce::setting::{day, desk_after};
+use super::super::scarce::setting::{DAY, desk_after};
 use super::super::scarce::{Call, Outcome, Store, for_each_refusal};
 use super::over_sql::{BLOCKS, OverSql, connected, stopped};
 use rtgs_book::Fault;
@@ -65,7 +65,7 @@ impl Call for Migrates {
     type Answer = Result<bool, Fault>;
 
     fn begin(&self, alloc: Global) -> Result<Tables<MemStore>, Fail> {
-        let desk = desk_after(alloc, OverSql.keeper(alloc)?, &day()?)?;
+        let desk = desk_after(alloc, OverSql.keeper(alloc)?, DAY)?;
         older(desk.into_keeper().into_connection(), self.ages)
     }
 

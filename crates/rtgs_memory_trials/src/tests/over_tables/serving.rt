@@ -1,45 +1,36 @@
 //! Requests over HTTP.
-use super::super::scarce::setting::{KEYS, opens, posts};
-use super::super::scarce::{OPERATOR, ORDERS, Serves, for_each_refusal, request_of};
+use super::super::scarce::setting::{ALFAS_KEY, FUNDED_DAY};
+use super::super::scarce::{OPERATOR, Sent, Serves, for_each_refusal, request_of, rows_of};
 use super::over_sql::{BLOCKS, OverSql};
-use rtgs_book::NewOrder;
 use rtgs_money::Key;
-use rtgs_order_files::read_orders;
 use std::test::Fail;
 
-// Serves this request to a desk over tables, after a posting to ALFA. It has these rows where it is a batch.
-fn tries(rt: &HostRuntime, name: &str, request: &String, rows: &[NewOrder]) -> Result<(), Fail> {
+// Sends a request to a desk over tables, on an open day on which ALFA has 150 cents. The test has this name.
+fn tries(rt: &HostRuntime, name: &str, sent: &Sent) -> Result<(), Fail> {
+    let rows = rows_of(rt.alloc(), sent)?;
+    let request = request_of(rt.alloc(), sent)?;
     let call = Serves {
         store: OverSql,
-        before: &[posts("ALFA", "P-1", 150)?, opens()?],
+        before: FUNDED_DAY,
         request: request.as_bytes(),
         operator: Key::read(OPERATOR.as_bytes())?.digest(),
-        rows,
+        rows: rows.as_slice(),
     };
-    for_each_refusal(rt, name, &call, BLOCKS)
+    let test = format!(in rt.alloc(); "tests::over_tables::serving::{name}")?;
+    for_each_refusal(rt, test.as_str(), &call, BLOCKS)
 }
 
 #[test]
 fn an_order_that_settles(rt: HostRuntime) -> Result<(), Fail> {
-    let body = "{\"amount\":100,\"reference\":\"A-1\",\"to\":\"BETA\"}";
-    let request = request_of(rt.alloc(), KEYS[0], "POST /orders", body)?;
-    tries(
-        &rt,
-        "tests::over_tables::serving::an_order_that_settles",
-        &request,
-        &[],
-    )
+    let sent = Sent {
+        key: ALFAS_KEY,
+        line: "POST /orders",
+        body: "{\"amount\":100,\"reference\":\"A-1\",\"to\":\"BETA\"}",
+    };
+    tries(&rt, "an_order_that_settles", &sent)
 }
 
 #[test]
 fn a_batch(rt: HostRuntime) -> Result<(), Fail> {
-    let rows = read_orders(rt.alloc(), ORDERS)?;
-    let body = std::str::from_utf8(ORDERS)?;
-    let request = request_of(rt.alloc(), KEYS[0], "POST /batches", body)?;
-    tries(
-        &rt,
-        "tests::over_tables::serving::a_batch",
-        &request,
-        rows.as_slice(),
-    )
+    tries(&rt, "a_batch", &Sent::BATCH)
 }

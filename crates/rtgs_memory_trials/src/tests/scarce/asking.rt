@@ -1,7 +1,7 @@
 //! What a desk is asked.
 use super::call::{Call, Outcome};
 use super::page::Page;
-use super::setting::{day, desk_after, desk_over, seen_of};
+use super::setting::{DAY, desk_after, seen_of};
 use super::store::Store;
 use rtgs_book::{AccountReading, Order, Reading, Refusal};
 use rtgs_desk::Desk;
@@ -9,6 +9,7 @@ use rtgs_keeper::Keeper;
 use rtgs_money::{Code, KeyDigest};
 use rtgs_output::TextFault;
 use rtgs_statements::{BookTextFault, write_report, write_statement};
+use rtgs_tests_desks::desk_over;
 use std::alloc::Global;
 use std::test::Fail;
 
@@ -63,7 +64,7 @@ where
     type Answer = ReadingAnswer;
 
     fn begin(&self, alloc: Global) -> Result<Desk<S::Kept>, Fail> {
-        desk_after(alloc, self.store.keeper(alloc)?, &day()?)
+        desk_after(alloc, self.store.keeper(alloc)?, DAY)
     }
 
     fn call(&self, alloc: Global, desk: &mut Desk<S::Kept>) -> ReadingAnswer {

@@ -2,17 +2,17 @@
 use super::call::{Call, Outcome};
 use super::setting::{desk_after, seen_of};
 use super::store::Store;
-use rtgs_book::{Command, Fault};
+use rtgs_book::Fault;
 use rtgs_desk::Desk;
 use rtgs_keeper::Keeper;
 use std::alloc::Global;
 use std::test::Fail;
 
-/// A desk over this store, opened over the book that these commands leave.
+/// A desk over this store, opened over the book that the commands of a script leave.
 #[derive(Clone, Copy)]
 pub struct Opens<'a, S> {
     pub store: S,
-    pub before: &'a [Command],
+    pub before: &'a str,
 }
 
 /// A keeper, or the desk that is opened over it.

@@ -1,17 +1,18 @@
 //! A batch of orders that is submitted.
 use super::call::{Call, Outcome};
-use super::setting::{desk_after, desk_over, opens, posts, seen_of};
+use super::setting::{FUNDED_DAY, desk_after, seen_of};
 use super::store::Store;
 use rtgs_book::{NewOrder, Refusal};
 use rtgs_desk::{Desk, submit_batch};
 use rtgs_keeper::Keeper;
 use rtgs_money::Code;
 use rtgs_order_files::{BatchResult, RowReply};
+use rtgs_tests_desks::desk_over;
 use std::alloc::{AllocError, Global};
 use std::test::Fail;
 
 /// Three orders of ALFA, which has 150 cents.
-pub const ORDERS: &[u8] = b"reference,to,amount\nA-1,BETA,100\nA-2,GAMA,50\nA-3,BETA,25\n";
+pub const ORDERS: &str = "reference,to,amount\nA-1,BETA,100\nA-2,GAMA,50\nA-3,BETA,25\n";
 
 /// What the desk replies to each of them.
 const REPLIES: [RowReply; 3] = [
@@ -25,7 +26,7 @@ const REPLIES: [RowReply; 3] = [
 
 /// A desk with three banks on an open day, of which ALFA has 150 cents.
 pub fn orders_desk<K: Keeper + Drop>(alloc: Global, keeper: K) -> Result<Desk<K>, Fail> {
-    desk_after(alloc, keeper, &[posts("ALFA", "P-1", 150)?, opens()?])
+    desk_after(alloc, keeper, FUNDED_DAY)
 }
 
 /// The rows of these orders, submitted to such a desk over this store.

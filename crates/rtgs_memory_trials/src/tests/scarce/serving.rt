@@ -1,12 +1,15 @@
 //! One request over HTTP.
 use super::call::{Call, Outcome};
-use super::setting::{code, desk_after, desk_over, seen_of};
+use super::sending::ORDERS;
+use super::setting::{ALFAS_KEY, code, desk_after, seen_of};
 use super::store::Store;
-use rtgs_book::{Command, NewOrder};
+use rtgs_book::NewOrder;
 use rtgs_desk::{Desk, submit_batch};
 use rtgs_http_server::{Served, serve_one};
 use rtgs_keeper::Keeper;
 use rtgs_money::KeyDigest;
+use rtgs_order_files::read_orders;
+use rtgs_tests_desks::desk_over;
 use std::alloc::Global;
 use std::fmt::Write;
 use std::test::Fail;
@@ -41,11 +44,11 @@ const HEADER: &str = "reference,result,number,detail\n";
 /// The results of the three orders that each batch here has.
 const RESULTS: [&str; 3] = ["A-1,settled,1,1\n", "A-2,settled,2,2\n", "A-3,queued,3,1\n"];
 
-/// One request to a desk over this store, which has three banks, after other commands.
+/// One request to a desk over this store, which has three banks, after the commands of a script.
 #[derive(Clone, Copy)]
 pub struct Serves<'a, S> {
     pub store: S,
-    pub before: &'a [Command],
+    pub before: &'a str,
     pub request: &'a [u8],
     pub operator: KeyDigest,
     /// The rows of the request where it is a batch of ALFA, and else none.
@@ -108,8 +111,34 @@ where
     Ok(parts)
 }
 
-/// The bytes of a request with this key, line and body.
-pub fn request_of(alloc: Global, key: &str, line: &str, body: &str) -> Result<String, Fail> {
+/// A request that is sent: its key, its line and its body.
+#[derive(Clone, Copy)]
+pub struct Sent {
+    pub key: &'static str,
+    pub line: &'static str,
+    pub body: &'static str,
+}
+
+impl Sent {
+    /// A batch of ALFA.
+    pub const BATCH: Sent = Sent {
+        key: ALFAS_KEY,
+        line: "POST /batches",
+        body: ORDERS,
+    };
+}
+
+/// The rows of a batch, and none of another request.
+pub fn rows_of(alloc: Global, sent: &Sent) -> Result<Vec<NewOrder>, Fail> {
+    if sent.line == Sent::BATCH.line {
+        return Ok(read_orders(alloc, sent.body.as_bytes())?);
+    }
+    Ok(Vec::new(alloc))
+}
+
+/// The bytes of a request.
+pub fn request_of(alloc: Global, sent: &Sent) -> Result<String, Fail> {
+    let Sent { key, line, body } = *sent;
     let length = body.len();
     let text = format!(in alloc;
         "{line} HTTP/1.1\r\ndesk-key: {key}\r\nContent-Length: {length}\r\n\r\n{body}"

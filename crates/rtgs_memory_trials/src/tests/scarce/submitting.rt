@@ -1,11 +1,13 @@
 //! A command that is submitted.
 use super::call::{Call, Outcome};
-use super::setting::{desk_after, desk_over, seen_of};
+use super::setting::{desk_after, seen_of};
 use super::store::Store;
 use super::worked::Worked;
-use rtgs_book::{Refusal, WholeAnswer};
+use rtgs_book::{Command, NewOrder, Refusal, WholeAnswer};
 use rtgs_desk::Desk;
 use rtgs_keeper::Keeper;
+use rtgs_money::BusinessDate;
+use rtgs_tests_desks::{command, desk_over};
 use std::alloc::Global;
 use std::test::Fail;
 
@@ -13,24 +15,38 @@ use std::test::Fail;
 #[derive(Clone, Copy)]
 pub struct Submits<'a, S> {
     pub store: S,
-    pub worked: &'a Worked,
+    pub worked: Worked<'a>,
+}
+
+/// A desk, and the command that it is given.
+#[derive(Drop)]
+pub struct DeskAndCommand<K: Keeper + Drop> {
+    desk: Desk<K>,
+    command: Command,
 }
 
 impl<S: Store> Call for Submits<'_, S>
 where
     S::Kept: Keeper + Drop,
 {
-    type State = Desk<S::Kept>;
+    type State = DeskAndCommand<S::Kept>;
 
     type Answer = Result<WholeAnswer, Refusal>;
 
-    fn begin(&self, alloc: Global) -> Result<Desk<S::Kept>, Fail> {
-        let before = self.worked.before.as_slice();
-        desk_after(alloc, self.store.keeper(alloc)?, before)
+    fn begin(&self, alloc: Global) -> Result<DeskAndCommand<S::Kept>, Fail> {
+        // Names the types of orders and of due dates for the borrow checker: they stand nowhere else in this function.
+        let (_no_order, _no_date): (Option<NewOrder>, Option<BusinessDate>) = (None, None);
+        let command = command(self.worked.line)?;
+        let desk = desk_after(alloc, self.store.keeper(alloc)?, self.worked.before)?;
+        Ok(DeskAndCommand { desk, command })
     }
 
-    fn call(&self, _alloc: Global, desk: &mut Desk<S::Kept>) -> Result<WholeAnswer, Refusal> {
-        desk.submit(self.worked.command)
+    fn call(
+        &self,
+        _alloc: Global,
+        state: &mut DeskAndCommand<S::Kept>,
+    ) -> Result<WholeAnswer, Refusal> {
+        state.desk.submit(state.command)
     }
 
     fn outcome(&self, answer: &Result<WholeAnswer, Refusal>) -> Outcome {
@@ -41,12 +57,20 @@ where
         }
     }
 
-    fn reopened(&self, alloc: Global, desk: Desk<S::Kept>) -> Result<Desk<S::Kept>, Fail> {
+    fn reopened(
+        &self,
+        alloc: Global,
+        state: DeskAndCommand<S::Kept>,
+    ) -> Result<DeskAndCommand<S::Kept>, Fail> {
+        let DeskAndCommand { desk, command } = state;
         let keeper = self.store.restarted(alloc, desk.into_keeper())?;
-        desk_over(alloc, keeper)
+        Ok(DeskAndCommand {
+            desk: desk_over(alloc, keeper)?,
+            command,
+        })
     }
 
-    fn seen(&self, alloc: Global, desk: &mut Desk<S::Kept>) -> Result<String, Fail> {
-        seen_of(alloc, desk)
+    fn seen(&self, alloc: Global, state: &mut DeskAndCommand<S::Kept>) -> Result<String, Fail> {
+        seen_of(alloc, &mut state.desk)
     }
 }
