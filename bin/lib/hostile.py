@@ -12,8 +12,8 @@ from lib import desks
 SIZES = [512, 1024, 2048, 4096, 8192, 16384, 32768, 65536]
 # The one file that a report changes.
 MOVED_IN = "a log with one commit more"
-# 10 MB of pages
-MANY = 10 * 1024 * 1024 // 4096
+# 10 MB
+MANY = 10 * 1024 * 1024
 
 
 def by_sql(*commands):
@@ -122,7 +122,14 @@ FILES = {
 }
 
 
-def pages_of(data, size=4096):
+def page_size(data):
+    """How many bytes a page has, by the file's header, or as `init` makes them where that was changed."""
+    size = int.from_bytes(data[16:18], "big")
+    return size if size in SIZES else 1024
+
+
+def pages_of(data):
+    size = page_size(data)
     return [bytearray(data[it:it + size]) for it in range(0, len(data), size)]
 
 
@@ -164,11 +171,9 @@ FILLED = ("CREATE TABLE more (id INTEGER PRIMARY KEY, filling BLOB)",
           "INSERT INTO more SELECT i, zeroblob({1}) FROM n")
 
 
-def filled(pages, length):
-    """Fills the file with so many pages of rows of this length in a table more."""
-    each = max(1, length // 4092)
-    rows = pages // each if length > 4000 else pages * (4080 // (length + 8))
-    return by_sql(FILLED[0], FILLED[1].format(rows, length))
+def filled(most, length):
+    """Fills the file with so many bytes of rows of this length in a table more."""
+    return by_sql(FILLED[0], FILLED[1].format(most // (length + 8), length))
 
 
 def changed_pages(make, change):
@@ -234,7 +239,7 @@ def trunks_to(target):
         page = pages[number - 1]
         if number >= struct.unpack(">I", pages[0][32:36])[0]:
             put(page, 0, target(number, len(pages)))
-            if struct.unpack(">I", page[4:8])[0] <= 1022:
+            if struct.unpack(">I", page[4:8])[0] <= len(page) // 4 - 2:
                 for at in range(8, 8 + 4 * struct.unpack(">I", page[4:8])[0], 4):
                     put(page, at, target(number, len(pages)))
     return change
@@ -242,13 +247,14 @@ def trunks_to(target):
 
 def all_inner(pages, number):
     """Each page has as many children as it has room for, which are the pages behind it, and then the first ones."""
-    count = 500
-    page = bytearray(4096)
+    size = len(pages[number - 1])
+    count = min(500, (size - 12) // 7)
+    page = bytearray(size)
     page[0] = 5
-    page[1:8] = struct.pack(">HHHB", 0, count, 4096 - 5 * count, 0)
+    page[1:8] = struct.pack(">HHHB", 0, count, size - 5 * count, 0)
     put(page, 8, the_next(number, len(pages)))
     for it in range(count):
-        at = 4096 - 5 * (it + 1)
+        at = size - 5 * (it + 1)
         page[12 + 2 * it:14 + 2 * it] = struct.pack(">H", at)
         put(page, at, (number + it) % (len(pages) - 1) + 2)
         page[at + 4] = it % 127
@@ -267,21 +273,22 @@ def large_files():
         yield f"10 MB, each page of a tree has {name} as its children", changed_pages(tree, children_to(target))
         yield f"10 MB, each page of a row has {name} behind it", changed_pages(rows, chains_to(target))
         yield f"10 MB, each free page has {name} behind it", changed_pages(freed, trunks_to(target))
-    yield "10 MB, each page has 501 others as its children", changed_pages(tree, all_inner)
+    yield "10 MB, each page has as many others as it has room for as its children", changed_pages(tree, all_inner)
 
 
 def changed_by(chance, data):
     """The file with one change: of bits, cut, with a page again or in another's place, or with another number."""
-    page = 4096 * chance.randrange(len(data) // 4096)
-    at = page + chance.choice([chance.randrange(128), chance.randrange(128), chance.randrange(4096)])
-    other = 4096 * chance.randrange(len(data) // 4096)
+    size = page_size(data)
+    page = size * chance.randrange(len(data) // size)
+    at = page + chance.choice([chance.randrange(128), chance.randrange(128), chance.randrange(size)])
+    other = size * chance.randrange(len(data) // size)
     how = chance.randrange(6)
     if how == 0:
         return data[:chance.choice([page, at])]
     if how == 1:
-        return data[:page] + data[other:other + 4096] + data[page:]
+        return data[:page] + data[other:other + size] + data[page:]
     if how == 2:
-        return data[:page] + data[other:other + 4096] + data[page + 4096:]
+        return data[:page] + data[other:other + size] + data[page + size:]
     if how == 3:
         length = chance.choice([1, 2, 4])
         number = chance.choice([0, 1, 2, 3, 5, 255, 256, 4096, 65535, 65536, 2**31 - 1, 2**32 - 1]) % 256**length

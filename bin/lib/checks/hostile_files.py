@@ -134,7 +134,7 @@ class Trial:
             desks.remove(self.book)
             changed = hostile.changed_by(chance, data)
             for _ in range(chance.randrange(3)):
-                changed = hostile.changed_by(chance, changed) if len(changed) > 4096 else changed
+                changed = hostile.changed_by(chance, changed) if len(changed) > hostile.page_size(changed) else changed
             with open(self.book, "wb") as it:
                 it.write(changed)
             said, _ = self.ask()

@@ -25,6 +25,7 @@ mod object_count;
 mod open_book;
 mod released;
 mod schema_size;
+mod small_pages;
 mod store;
 pub mod stored_desk;
 mod unopened;

@@ -19,11 +19,12 @@ use crate::finished_book::FinishedBook;
 use crate::held_lock::HeldLock;
 use crate::looked_at::LookedAt;
 use crate::released::Released;
+use crate::small_pages::make_database;
 use crate::store::{FileKeeper, connect};
 use crate::unopened::Unopened;
 use rtgs_desk::Desk;
 use rtgs_keeper::Keeper;
-use sqlite::Start;
+use sqlite::{Start, Unknown};
 
 /// A desk over the book in a file, and the lock of the file. Only a lock makes one, and as it cannot be dropped, it
 /// ends by `finish` alone.
@@ -146,7 +147,9 @@ fn make_book<S: Start>(
     ensures refused { IfErr result (BarsBook ⟦<FileKeeper<S> as Keeper>⟧ (λ keeper. keeper.conn)
         (image_at S.Start) (λ closed. closed.files.value)) }
 {
+    let path = lock.path();
     let file = lock.with_nothing(rt)?;
+    make_database(rt, path, Unknown);
     make_tables(rt, file)
 }
 

@@ -113,8 +113,8 @@ fn is_blank<D: Disk>(alloc: Global, files: &mut Files<D>, has_sums: bool) -> Opt
     probe_blank(alloc, files, size, has_sums).ok()
 }
 
-// The files with pages of this size.
-fn over<D: Disk + Drop>(
+/// The files with pages of this size.
+pub(crate) fn over<D: Disk + Drop>(
     alloc: Global,
     files: Files<D>,
     size: PageSize,

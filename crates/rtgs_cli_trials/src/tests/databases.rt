@@ -1,6 +1,7 @@
-//! A book's file as another program changes it. Only this module names the store, since each proof over it takes in all
+//! A book's file as another program makes it or changes it. Only this module names the store, since each proof over it takes in all
 //! that it does: a function that holds it by its type from one step to the next costs most. So those that name it take
 //! one step, and what takes several is written for any database.
+use rtgs_book_file::stored_desk::make;
 use sqlite::{Alter, Connection, FileStore};
 use sqlite_disk::Disk;
 use std::test::Fail;
@@ -52,4 +53,27 @@ pub fn change(rt: &HostRuntime, file: &str, sql: &str, is_logged: bool) -> Resul
         return Ok(());
     }
     Err(Fail::new(format_args!("{file} was not changed by {sql}")))
+}
+
+/// Makes the tables of a new book in a database, and closes it. Whether it did so.
+fn is_made<D: Disk + Drop>(conn: Connection<FileStore<D>>) -> bool {
+    if !conn.is_autocommit() {
+        return false;
+    }
+    match make(conn) {
+        Ok(conn) => conn.close().is_ok(),
+        Err((_, conn)) => {
+            let _ = conn.close();
+            false
+        }
+    }
+}
+
+/// Makes a book in a file that is missing, with pages of the size that the store gives to new files.
+pub fn make_large(rt: &HostRuntime, file: &str) -> Result<(), Fail> {
+    let conn = Connection::open(rt, file)?;
+    if is_made(conn) {
+        return Ok(());
+    }
+    Err(Fail::new(file))
 }

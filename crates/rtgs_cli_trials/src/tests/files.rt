@@ -1,7 +1,7 @@
 //! Files that are no book, or are in use.
 use super::BEGIN;
 use super::script::{follows, follows_both, follows_each};
-use std::fs::OpenOptions;
+use std::fs::{self, OpenOptions};
 use std::test::Fail;
 
 const MISSING: &str = "
@@ -133,4 +133,19 @@ fn that_are_in_use(rt: HostRuntime) -> Result<(), Fail> {
     follows(&rt, "in_use", BEGIN)?;
     is_in_use(&rt)?;
     follows(&rt, "in_use", NO_LONGER_IN_USE)
+}
+
+const NEW: &str = "
+$ desk init @
+> initialised
+";
+
+// The bytes 16 and 17 of a file say how many bytes a page of it has.
+#[test]
+fn of_a_new_book_have_pages_of_1024_bytes(rt: HostRuntime) -> Result<(), Fail> {
+    follows(&rt, "new_pages", NEW)?;
+    let file = fs::read(&rt, "new_pages")?;
+    assert!(rt; file.as_slice().get(16..18) == Some([4, 0].as_slice()));
+    assert_eq!(rt; file.len() % 1024, 0);
+    Ok(())
 }

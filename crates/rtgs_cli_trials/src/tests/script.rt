@@ -15,6 +15,7 @@
 //! - `$ orders PATH ROWS` writes a file of orders: their header, and a line for each of these rows.
 //! - `$ sql PATH STATEMENT` changes a book's file by SQL, as another program does; `$ log PATH STATEMENT` leaves the
 //!   change in its log.
+//! - `$ large PATH` makes a new book whose file has larger pages than `init` gives it.
 //! - `$ folder PATH` makes a folder.
 //! - `$ copy PATH OTHER` copies a file to the other, which then has no log. With another word in place of `copy`, the
 //!   copy is made hostile (`files::made`).
@@ -22,7 +23,7 @@
 //!
 //! Each `@` stands for the book that the script is followed over. All tests share a folder, so that each has a book of
 //! its own.
-use super::databases::change;
+use super::databases::{change, make_large};
 use super::hostile::files::made;
 use super::runs::{Outcome, run};
 use std::alloc::{AllocError, Global};
@@ -236,6 +237,7 @@ fn prepare(rt: &HostRuntime, kind: &str, path: &str, text: &str) -> Result<(), F
         "log" => change(rt, path, text, true),
         "same" => is_same(rt, path, text),
         "gone" => is_gone(rt, path),
+        "large" => make_large(rt, path),
         "folder" => Ok(fs::create_dir(rt, path)?),
         _ => remake(rt, kind, path, text),
     }

@@ -5,10 +5,9 @@ use std::alloc::{AllocError, Global};
 use std::test::Fail;
 
 /// Makes a book with three banks and a day, in which two orders have settled under two marks, one is withdrawn and one
-/// waits, and keeps a copy of it.
+/// waits, and keeps a copy of it. Its pages are large, so that the first one has the whole list of its objects.
 pub const BOOK: &str = "
-$ desk init @
-> initialised
+$ large @
 $ desk add @ ALFA 'A Bank' 0000000000000000000000000000000a
 > added
 $ desk add @ BETA 'A Bank' 0000000000000000000000000000000b
