@@ -29,6 +29,8 @@ CONSTANTS = {
     "number": ("rtgs_book/src/limits.rt", "LARGEST_NUMBER"),
     "total": ("rtgs_book/src/limits.rt", "LARGEST_TOTAL"),
     "objects": ("rtgs_book_file/src/limits.rt", "MOST_OBJECTS"),
+    "page": ("rtgs_book_file/src/small_pages.rt", "SMALL_SIZE"),
+    "large_page": ("rtgs_book_file/src/schema_size.rt", "NEW_SIZE"),
     "rows": ("rtgs_order_files/src/limits.rt", "MOST_ROWS"),
     "file": ("rtgs_order_files/src/limits.rt", "MOST_BYTES"),
     "head": ("rtgs_http_requests/src/feeds/limits.rt", "LONGEST_HEAD"),
@@ -99,6 +101,7 @@ TEXTS = {
         "Help goes to standard output, with status {done}.",
         "to standard output, the run ends with status {failed}.",
         "A book has {tables:w} STRICT tables",
+        "The file that `init` makes has pages of {page} bytes;",
         "`id` INTEGER PRIMARY KEY, always 1; `version` INTEGER NOT NULL, {version};",
         "`phase` INTEGER NOT NULL: {closed} closed, {open} open, {cut_off} cut off",
         "`key` BLOB NOT NULL UNIQUE, {digest} bytes;",
@@ -159,6 +162,7 @@ TEXTS = {
         "This program makes tables of version {version};",
         "ends with status {failed} and without the line `served N`",
         "An `import` ends with {done} even if rows were refused",
+        "A new book's file has pages of {page} bytes, one of 0.12.0 or before pages of {large_page}.",
     ],
     "docs/BANKS.md": [
         "1 to {reference} capital letters, digits and dashes",
@@ -193,13 +197,19 @@ TEXTS = {
         "A bank with {queue} held orders can queue none.",
         "the sum over all accounts, at most {participants}.",
         "Above {objects} it is 93,",
+        "looks at FILE alone, and gives it pages of {page} bytes",
+        "an empty database with pages of {page} bytes there",
+        "with the {large_page} bytes that it gives to new files",
         "A row after {rows} good ones makes the file too long",
         "at most {file} bytes, and the body of a request too,",
         "are errors of the command line (status {misused}).",
     ],
     "docs/ARCHITECTURE.md": ["The desk is a stack of {crates} crates."],
     "CONTRIBUTING.md": ["The gate may take {gate} lane-minutes"],
-    "CHANGELOG.md": ["The limit of {queue} orders of a sender (refusal 7)"],
+    "CHANGELOG.md": [
+        "The limit of {queue} orders of a sender (refusal 7)",
+        "The file of a new book has pages of {page} bytes, where it had {large_page}:",
+    ],
 }
 # numbers that another script or a test asserts, which is named
 ELSEWHERE = {
