@@ -1,8 +1,8 @@
 -- What the resolver is given of the accounts.
 use Rattle.std.proofs.Common.{◌≡◌, ℕ, List, [], ◌∷◌, ◌++◌, map, find, Some, Less, nat_cmp, refl, sym, ap, ◌∙◌, subst}
-use Rattle.std.proofs.Common.{take, drop, length, length-append, append_assoc, suc, ◌<◌, ◌≤◌, ◌+◌, ◌*◌, get_or, true}
+use Rattle.std.proofs.Common.{take, length, length-append, suc, ◌<◌, ◌≤◌, ◌+◌, ◌*◌, get_or, true}
 use Rattle.std.proofs.Common.{arith}
-use Rattle.std.proofs.lemmas.List.{append-nil, length-map, length-take, get_or-map, at_drop_more}
+use Rattle.std.proofs.lemmas.List.{append-nil, length-map, length-take, get_or-map}
 use Rattle.std.specs.List.{AllByRecursion, position_or_len, flat_map}
 use Rattle.std.specs.Str.{bytes_eq}
 use Rattle.std.specs.List.Sorted.{IsStrictlySortedBy}
@@ -135,19 +135,6 @@ queues_are r queued same =
         ∷ each xs i
 
 -- ---- the beginnings of queues
-
-pub one_queue_more : (lengths : ℕ → ℕ) (queued : List Order) (xs : List Account) (i : ℕ) (a : Account)
-    (done new : List Order) → i < length xs → a ≡ get_or xs i a
-    → new ≡ done ++ take (lengths i) (queued_among queued (code_of a))
-    → done ++ taken_from lengths queued i (drop i xs) ≡ taken_from lengths queued 0 xs
-    → new ++ taken_from lengths queued (i + 1) (drop (i + 1) xs) ≡ taken_from lengths queued 0 xs
-one_queue_more lengths queued xs i a done new less here is so_far =
-    ap (λ ys. ys ++ taken_from lengths queued (i + 1) (drop (i + 1) xs)) is
-    ∙ append_assoc done (take (lengths i) (queued_among queued (code_of a)))
-    (taken_from lengths queued (i + 1) (drop (i + 1) xs))
-    ∙ ap (λ y. done ++ taken_from lengths queued i (y ∷ drop (i + 1) xs)) here
-    ∙ ap (λ ys. done ++ ys) (sym (at_drop_more (taken_from lengths queued i) xs i a less))
-    ∙ so_far
 
 -- as many codes as accounts
 pub count_is : (r : Whole) → length (codes_of (book_of r)) ≡ length r.accounts.accounts

@@ -52,11 +52,6 @@ any-participants key (x ∷ xs) = ap (λ b. has_key key x || b) (any-participant
 pub length-participants : (xs : List Account) → length (map participant_in xs) ≡ length xs
 length-participants xs = length-map xs participant_in
 
-pub all_participants : (P : Participant → Type 0) (xs : List Account) → AllByRecursion (λ a. P (participant_in a)) xs
-    → AllByRecursion P (map participant_in xs)
-all_participants P [] h = tt
-all_participants P (x ∷ xs) h = (h.0, all_participants P xs h.1)
-
 -- what holds of each code holds of that of an account that is found, which is the code
 found_code : (P : List ℕ → Type 0) (code : List ℕ) (xs : List Account) (a : Account) → find (is_of code) xs ≡ Some a
     → AllByRecursion P (map (λ (p : Participant). p.code) (map participant_in xs)) → P code

@@ -1,7 +1,6 @@
 -- Rules one after another.
-use Rattle.std.proofs.Common.{◌≡◌, ℕ, ◌+◌, pos, ◌≤ℤ◌, Bool, true, ◌↔◌, ◌<◌, ◌≤◌, ◌⊎◌, inl, inr, ⊎_elim, refl, sym, ap}
-use Rattle.std.proofs.Common.{◌∙◌, subst, length, get_or, [], ◌∷◌, arith}
-use Rattle.std.proofs.lemmas.Bool.{cases_lt}
+use Rattle.std.proofs.Common.{◌≡◌, ℕ, ◌+◌, pos, ◌≤ℤ◌, Bool, true, ◌↔◌, ◌<◌, ◌≤◌, sym, ap}
+use Rattle.std.proofs.Common.{subst, length, get_or, [], ◌∷◌, arith}
 use Rattle.std.proofs.lemmas.List.{length-map}
 use Rattle.rtgs_book.specs.declared.rule.Rule.{Rule}
 use Rattle.rtgs_book.specs.declared.rule.Rule.TheVariants.{OrderNumbers, PostingNumbers, MarkNumbers, ParticipantCodes}
@@ -53,94 +52,9 @@ placed n = get_or (StoredBalances ∷ OrderNumbers ∷ PostingNumbers ∷ MarkNu
     ∷ OrderReferences ∷ PostingReferences ∷ Parties ∷ Marks ∷ Queues ∷ Dates ∷ Floors ∷ Total ∷ AutomaticDay
     ∷ Calm ∷ []) n StoredBalances
 
-placed_is : (rule : Rule) → placed (place rule) ≡ rule
-placed_is OrderNumbers = refl
-placed_is PostingNumbers = refl
-placed_is MarkNumbers = refl
-placed_is ParticipantCodes = refl
-placed_is Keys = refl
-placed_is OrderReferences = refl
-placed_is PostingReferences = refl
-placed_is Parties = refl
-placed_is Marks = refl
-placed_is Queues = refl
-placed_is Dates = refl
-placed_is Floors = refl
-placed_is Total = refl
-placed_is StoredBalances = refl
-placed_is AutomaticDay = refl
-placed_is Calm = refl
-
 -- the rules in the first places are kept
 abbrev pub KeepsFirst : Book → ℕ → Type 0
 KeepsFirst book count = (rule : Rule) → place rule ≤ count → Keeps book rule
-
-same_rule : (one other : Rule) → place one ≡ place other → one ≡ other
-same_rule one other e = sym (placed_is one) ∙ ap placed e ∙ placed_is other
-
-split_last : (a b : ℕ) → a ≤ b + 1 → (a ≤ b) ⊎ (a ≡ b + 1)
-split_last a b h = ⊎_elim (λ less. inl (omega arith)) (λ past. inr (omega arith)) (cases_lt a (b + 1))
-
-pub keeps_none : (book : Book) → KeepsFirst book 0
-keeps_none book StoredBalances h = tt
-keeps_none book OrderNumbers h = absurd (omega (arith, h))
-keeps_none book PostingNumbers h = absurd (omega (arith, h))
-keeps_none book MarkNumbers h = absurd (omega (arith, h))
-keeps_none book ParticipantCodes h = absurd (omega (arith, h))
-keeps_none book Keys h = absurd (omega (arith, h))
-keeps_none book OrderReferences h = absurd (omega (arith, h))
-keeps_none book PostingReferences h = absurd (omega (arith, h))
-keeps_none book Parties h = absurd (omega (arith, h))
-keeps_none book Marks h = absurd (omega (arith, h))
-keeps_none book Queues h = absurd (omega (arith, h))
-keeps_none book Dates h = absurd (omega (arith, h))
-keeps_none book Floors h = absurd (omega (arith, h))
-keeps_none book Total h = absurd (omega (arith, h))
-keeps_none book AutomaticDay h = absurd (omega (arith, h))
-keeps_none book Calm h = absurd (omega (arith, h))
-
-pub keeps_more : (book : Book) (count : ℕ) (rule : Rule) → place rule ≡ count + 1 → KeepsFirst book count
-    → Keeps book rule → KeepsFirst book (count + 1)
-keeps_more book count rule next first kept other within =
-    ⊎_elim (λ less. first other less) (λ is. subst (Keeps book) (same_rule rule other (next ∙ sym is)) kept)
-    (split_last (place other) count within)
-
--- places and numbers: up to 13 they are the same
-abbrev IsPlaced : ℕ → ℕ → Type 0
-IsPlaced at number = ((at ≡ number) × (number ≤ 13)) ⊎ (((at ≡ 0) × (number ≡ 14)) ⊎ ((at + 1 ≡ number) × (15 ≤ number)))
-
-is_placed : (rule : Rule) → IsPlaced (place rule) (rule_number rule)
-is_placed OrderNumbers = inl (refl, omega arith)
-is_placed PostingNumbers = inl (refl, omega arith)
-is_placed MarkNumbers = inl (refl, omega arith)
-is_placed ParticipantCodes = inl (refl, omega arith)
-is_placed Keys = inl (refl, omega arith)
-is_placed OrderReferences = inl (refl, omega arith)
-is_placed PostingReferences = inl (refl, omega arith)
-is_placed Parties = inl (refl, omega arith)
-is_placed Marks = inl (refl, omega arith)
-is_placed Queues = inl (refl, omega arith)
-is_placed Dates = inl (refl, omega arith)
-is_placed Floors = inl (refl, omega arith)
-is_placed Total = inl (refl, omega arith)
-is_placed StoredBalances = inr (inl (refl, refl))
-is_placed AutomaticDay = inr (inr (refl, omega arith))
-is_placed Calm = inr (inr (refl, omega arith))
-
-in_turn : (a n b m count : ℕ) → IsPlaced a n → IsPlaced b m → n < m → b ≡ count + 1 → a ≤ count
-in_turn a n b m count (inl h) (inl k) less next = omega (arith, h.0, h.1, k.0, k.1, less, next)
-in_turn a n b m count (inl h) (inr (inl k)) less next = omega (arith, h.0, h.1, k.0, k.1, less, next)
-in_turn a n b m count (inl h) (inr (inr k)) less next = omega (arith, h.0, h.1, k.0, k.1, less, next)
-in_turn a n b m count (inr (inl h)) k less next = omega (arith, h.0)
-in_turn a n b m count (inr (inr h)) (inl k) less next = omega (arith, h.0, h.1, k.0, k.1, less, next)
-in_turn a n b m count (inr (inr h)) (inr (inl k)) less next = omega (arith, h.0, h.1, k.0, k.1, less, next)
-in_turn a n b m count (inr (inr h)) (inr (inr k)) less next = omega (arith, h.0, h.1, k.0, k.1, less, next)
-
-pub before_next : (book : Book) (count : ℕ) (rule : Rule) → place rule ≡ count + 1 → KeepsFirst book count
-    → KeepsBefore book rule
-before_next book count rule next first other less = first other
-    (in_turn (place other) (rule_number other) (place rule) (rule_number rule) count (is_placed other) (is_placed rule)
-    less next)
 
 -- the last rule is none of the first
 pub not_the_last : (rule : Rule) (count : ℕ) → place rule ≡ count + 1 → count < 14 → rule ≡ Calm → ⊥

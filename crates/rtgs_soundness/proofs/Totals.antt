@@ -1,5 +1,5 @@
 -- What sums under keys hold.
-use Rattle.std.proofs.Common.{◌≡◌, ℕ, zero, suc, ◌||◌, map, ◌+◌, ◌<◌, ◌≤◌, ◌*◌, ◌^◌, ℤ, pos, neg_ℤ, ◌+ℤ◌, ◌-ℤ◌, Bool}
+use Rattle.std.proofs.Common.{◌≡◌, ℕ, zero, suc, ◌||◌, map, ◌+◌, ◌<◌, ◌≤◌, ◌^◌, ℤ, pos, neg_ℤ, ◌+ℤ◌, ◌-ℤ◌, Bool}
 use Rattle.std.proofs.Common.{true, false, cond, List, [], ◌∷◌, ◌++◌, Option, Some, None, Ordering, filter, length}
 use Rattle.std.proofs.Common.{take, get_or, sum_by, FitsSigned, unsigned_abs, w64, to_z, of_z, nat_cmp, refl, sym, ap}
 use Rattle.std.proofs.Common.{◌∙◌, ◌&&◌, subst, arith}
@@ -90,16 +90,6 @@ pub sum_more : {X : Type 0} (p : X → Bool) (g : X → ℤ) (xs : List X) (i : 
 sum_more p g xs i x less is =
     ap (λ ys. int_sum_by g (filter p ys)) (take_more xs i x less ∙ ap (λ y. take i xs ++ y ∷ []) (sym is))
     ∙ sum_pushed p g (take i xs) x
-
-pub sum_within : {X : Type 0} (p : X → Bool) (g : X → ℤ) (n : ℕ) (xs : List X) → AllByRecursion (λ x. Within n (g x)) xs
-    → Within (length xs * n) (int_sum_by g (filter p xs))
-sum_within p g n [] h = (omega (arith, ints), omega (arith, ints))
-sum_within p g n (x ∷ xs) h = by (p x) (sum_within p g n xs h.1)
-  where
-    by : (b : Bool) → Within (length xs * n) (int_sum_by g (filter p xs))
-        → Within (suc (length xs) * n) (int_sum_by g (cond b (x ∷ filter p xs) (filter p xs)))
-    by true r = let low = h.0.0 in let high = h.0.1 in (omega (arith, ints), omega (arith, ints))
-    by false r = (omega (arith, ints), omega (arith, ints))
 
 -- counts and amounts as sums
 pub count_is_sum : {X : Type 0} (xs : List X) → int_sum_by (λ x. pos 1) xs ≡ pos (length xs)
@@ -230,10 +220,6 @@ int_sum_more g xs i x less is =
     ap (int_sum_by g) (take_more xs i x less ∙ ap (λ y. take i xs ++ y ∷ []) (sym is))
     ∙ int_sum_by-append g (take i xs) (x ∷ []) ∙ (let z : g x +ℤ pos 0 ≡ g x = omega (arith, ints)
     in ap (λ y. int_sum_by g (take i xs) +ℤ y) z)
-
-pub int_sum_all : {X : Type 0} (g : X → ℤ) (xs : List X) (i : ℕ) → length xs ≤ i
-    → int_sum_by g (take i xs) ≡ int_sum_by g xs
-int_sum_all g xs i past = ap (int_sum_by g) (take_all i xs past)
 
 same_as_itself : (code : List ℕ) → eq_by_cmp (slice_cmp nat_cmp) code code ≡ true
 same_as_itself code = sym (texts_ties code code) ∙ (bytes_decides code code).1 refl

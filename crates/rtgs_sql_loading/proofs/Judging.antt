@@ -1,7 +1,6 @@
 -- Which rule a fault names.
 use Rattle.std.proofs.Common.{◌≡◌, ◌≢◌, ℕ, ℤ, ◌↔◌, Bool, true, false, cond, List, [], ◌∷◌, Some, None, map, option_map}
 use Rattle.std.proofs.Common.{unwrap_or, Ok, Err, Result, IfOk, IfErr, OnOk, nat_cmp, refl, sym, ap, subst, subst₂, ◌∙◌}
-use Rattle.std.proofs.Common.{◌<◌, ◌≤◌, arith}
 use Rattle.std.specs.List.{AllByRecursion, list_all}
 use Rattle.std.specs.BTreeMap.{BTreeMap}
 use Rattle.std.specs.Cmp.Lexicographic.{slice_cmp}
@@ -21,15 +20,9 @@ use Rattle.rtgs_book.specs.declared.participant.Participant.{Participant}
 use Rattle.rtgs_book.specs.declared.fault.Fault.{Fault}
 use Rattle.rtgs_book.specs.declared.fault.Fault.TheVariants.{OutOfMemory, StoreFault, NotADeskFile, Inconsistent}
 use Rattle.rtgs_book.specs.declared.rule.Rule.{Rule}
-use Rattle.rtgs_book.specs.declared.rule.Rule.TheVariants.{OrderNumbers, PostingNumbers, MarkNumbers, ParticipantCodes}
-use Rattle.rtgs_book.specs.declared.rule.Rule.TheVariants.{Keys, OrderReferences, PostingReferences, Parties, Marks}
-use Rattle.rtgs_book.specs.declared.rule.Rule.TheVariants.{Queues, Dates, Floors, Total, StoredBalances, AutomaticDay}
-use Rattle.rtgs_book.specs.declared.rule.Rule.TheVariants.{Calm}
-use Rattle.rtgs_book.specs.Judgement.{Keeps, KeepsBefore, BreaksFirst, rule_number}
-use Rattle.rtgs_book.specs.Soundness.{IsSound}
 use Rattle.rtgs_book.specs.declared.account.Account.{Account}
 use Rattle.rtgs_rows.specs.Keeping.{AreBalances}
-use Rattle.rtgs_sql_loading.specs.Accounts.{AreReadOf, AreFormed, is_stored, StoredBreaksFirst, ExplainsBefore}
+use Rattle.rtgs_sql_loading.specs.Accounts.{AreReadOf, AreFormed, is_stored}
 use Rattle.rtgs_sql_loading.specs.Accounts.{ExplainsRead, ExplainsTrees}
 use Rattle.sqlite.specs.Tree.{Trees}
 
@@ -140,71 +133,3 @@ stored_agree book all sums same totals =
     ∙ map-map (λ (p : Participant). p.code) (λ (a : Account). a.participant) all in
     all_stored (balance book) (map code_of all) sums (subst (λ keys. Totals (slice_cmp nat_cmp) keys (balance book)
     sums) codes totals) all (are_members all)
-
--- ---- rules before and after that on stored balances
-
--- a sound book keeps each rule but the last
-pub keeps_sound : (book : Book) → IsSound book → KeepsBefore book Calm
-keeps_sound book sound OrderNumbers low = sound.orders_numbered
-keeps_sound book sound PostingNumbers low = sound.postings_numbered
-keeps_sound book sound MarkNumbers low = sound.marks_numbered
-keeps_sound book sound ParticipantCodes low = sound.codes_rise
-keeps_sound book sound Keys low = sound.keys_distinct
-keeps_sound book sound OrderReferences low = sound.order_references
-keeps_sound book sound PostingReferences low = sound.posting_references
-keeps_sound book sound Parties low = sound.parties
-keeps_sound book sound Marks low = sound.marks
-keeps_sound book sound Queues low = sound.queues
-keeps_sound book sound Dates low = sound.dates
-keeps_sound book sound Floors low = sound.floors
-keeps_sound book sound Total low = sound.total_fits
-keeps_sound book sound StoredBalances low = tt
-keeps_sound book sound AutomaticDay low = sound.automatic_fits
-keeps_sound book sound Calm low = absurd (omega (arith, low))
-
--- where a book keeps those before a rule, it keeps those before an earlier one
-pub keeps_fewer : (book : Book) (one other : Rule) → rule_number one ≤ rule_number other → KeepsBefore book other
-    → KeepsBefore book one
-keeps_fewer book one other low keeps rule less = keeps rule (omega (arith, low, less))
-
--- no rule up to that on stored balances is the last
-not_the_last : (rule : Rule) → rule_number rule ≤ rule_number StoredBalances → rule ≢ Calm
-not_the_last rule low is = let same = ap rule_number is in omega (arith, low, same)
-
--- a book that breaks a rule up to that on stored balances breaks it first, whatever it stores
-pub breaks_stored : (accounts : List Account) (book : Book) (rule : Rule)
-    → rule_number rule ≤ rule_number StoredBalances → BreaksFirst book rule → StoredBreaksFirst accounts book rule
-breaks_stored accounts book rule low breaks = record {
-  broken = λ kept. breaks.broken (kept.0 (not_the_last rule low));
-  before = λ other less. (
-    λ _. breaks.before other less,
-    λ is. let same = ap rule_number is in absurd (omega (arith, low, less, same)),
-  );
-}
-
--- and where its stored balances are right, any but the last
-pub breaks_later : (accounts : List Account) (book : Book) (rule : Rule) → AreBalances book accounts
-    → BreaksFirst book rule → rule ≢ Calm → StoredBreaksFirst accounts book rule
-breaks_later accounts book rule right breaks earlier = record {
-  broken = λ kept. breaks.broken (kept.0 earlier);
-  before = λ other less. (λ _. breaks.before other less, λ is. right);
-}
-
--- stored balances that are wrong, where the rules before are kept
-pub breaks_balances : (accounts : List Account) (book : Book) → KeepsBefore book StoredBalances
-    → ¬ AreBalances book accounts → StoredBreaksFirst accounts book StoredBalances
-breaks_balances accounts book keeps wrong = record {
-  broken = λ kept. wrong (kept.1 refl);
-  before = λ other less. (
-    λ _. keeps other less,
-    λ is. let same = ap rule_number is in absurd (omega (arith, less, same)),
-  );
-}
-
--- why a book was refused by one of the rules before
-pub explains_read : (accounts : List Account) (book : Book) (fault : Fault)
-    → ExplainsBefore book StoredBalances fault → ExplainsRead accounts book fault
-explains_read accounts book OutOfMemory why = tt
-explains_read accounts book StoreFault why = absurd why
-explains_read accounts book NotADeskFile why = absurd why
-explains_read accounts book (Inconsistent rule) why = breaks_stored accounts book rule why.0 why.1

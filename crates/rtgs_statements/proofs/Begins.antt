@@ -1,11 +1,10 @@
 -- Texts that are written part by part.
-use Rattle.std.proofs.Common.{◌≡◌, arith, ◌<◌, ◌+◌, ◌++◌, [], ℕ, List, length, length-append, take, drop, Option, Some}
+use Rattle.std.proofs.Common.{◌≡◌, arith, ◌<◌, ◌+◌, ◌++◌, ℕ, List, length, length-append, take, drop, Option, Some}
 use Rattle.std.proofs.Common.{None, refl, sym, ap, subst, ◌∙◌, append_assoc}
 use Rattle.std.specs.Io.KnownBytes.{Appends}
 use Rattle.std.proofs.lemmas.List.{take-append-drop, take_at, length-drop}
 use Rattle.rtgs_output.specs.Sent.{AppendsPart}
 use Rattle.rtgs_statements.specs.Reads.{AppendsBeginning}
-use Rattle.rtgs_statements.proofs.Growth.{appends-none}
 
 pub appends-both : (old mid new : Option (List ℕ)) (a b : List ℕ) → Appends old mid a → Appends mid new b
     → Appends old new (a ++ b)
@@ -17,9 +16,6 @@ appends-both (Some xs) (Some ys) (Some zs) a b p q = rw (q, p) (append_assoc xs 
 pub part-begins : (old new : Option (List ℕ)) (text : List ℕ) → AppendsPart old new text
     → AppendsBeginning old new text
 part-begins old new text part = (take part.0 text, drop part.0 text, part.2, take-append-drop part.0 text)
-
-pub nothing-begins : (old : Option (List ℕ)) (text : List ℕ) → AppendsBeginning old old text
-nothing-begins old text = ([], text, appends-none old, refl)
 
 -- a beginning after what stands before it, of a longer text
 pub begins-within : (old mid new : Option (List ℕ)) (before text after whole : List ℕ) → Appends old mid before

@@ -1,6 +1,6 @@
 -- What the keeper says of a look.
 use Rattle.std.proofs.Common.{◌≡◌, ◌≢◌, ◌⊎◌, inl, inr, ℕ, ◌<◌, ◌==◌, Bool, true, false, List, [], ◌∷◌, Option, Some}
-use Rattle.std.proofs.Common.{None, unwrap_or, Ok, Err, Result, IfErr, refl, sym, ap, subst, ◌∙◌, arith, eqb-true}
+use Rattle.std.proofs.Common.{None, unwrap_or, Err, Result, refl, sym, ap, subst, ◌∙◌, arith, eqb-true}
 use Rattle.std.proofs.Common.{eq-eqb, ◌&&◌, nat_lt, true≢false}
 use Rattle.std.specs.List.{find}
 use Rattle.std.proofs.lemmas.Bool.{cases_Bool}
@@ -54,18 +54,6 @@ no_desk fault (inr is) e = let clash : StoreFault ≡ NotADeskFile = sym is ∙ 
 no_rule : (fault : Fault) (rule : Rule) → (fault ≡ OutOfMemory) ⊎ (fault ≡ StoreFault) → fault ≢ Inconsistent rule
 no_rule fault rule (inl is) e = let clash : OutOfMemory ≡ Inconsistent rule = sym is ∙ e in cc
 no_rule fault rule (inr is) e = let clash : StoreFault ≡ Inconsistent rule = sym is ∙ e in cc
-
-pub kinds_on : {S A : Type 0} (g : Ghosts S) (old new : Held S) (r : Result A Fault) → IsLook g old new r
-    → (r ≢ Err NotADeskFile) × ((rule : Rule) → r ≢ Err (Inconsistent rule))
-kinds_on {A = A} g old new r look = at r look.kinds
-  where
-    at : (q : Result A Fault) → IfErr q (λ fault. (fault ≡ OutOfMemory) ⊎ (fault ≡ StoreFault))
-        → (q ≢ Err NotADeskFile) × ((rule : Rule) → q ≢ Err (Inconsistent rule))
-    at (Ok a) kinds = ((λ e. cc), (λ rule e. cc))
-    at (Err fault) kinds = (
-      (λ e. no_desk fault kinds (let same : fault ≡ NotADeskFile = cc in same)),
-      (λ rule e. no_rule fault rule kinds (let same : fault ≡ Inconsistent rule = cc in same)),
-    )
 
 -- ---- a posting without a date is of no date
 

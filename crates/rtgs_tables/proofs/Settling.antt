@@ -1,11 +1,10 @@
 -- What a keeper over a connection holds after a change, and what a stop may leave of it.
-use Rattle.std.proofs.Common.{◌≡◌, ◌⊎◌, inl, inr, List, IsTrue, sym, ap, subst, ◌∙◌, arith}
+use Rattle.std.proofs.Common.{◌≡◌, ◌⊎◌, inl, inr, List, sym, ◌∙◌, arith}
 use Rattle.std.specs.List.{AllByRecursion}
 use Rattle.sqlite_trees.specs.declared.store.Store.{Ghosts}
 use Rattle.sqlite.specs.Tree.{Trees}
-use Rattle.sqlite.specs.Effect.{Database}
 use Rattle.sqlite.specs.Held.{Held, state}
-use Rattle.sqlite.specs.State.{State, Opens, IsLive, HasCleanDisk, Survives, IsUnchanged}
+use Rattle.sqlite.specs.State.{State, Opens, IsLive, HasCleanDisk, Survives}
 use Rattle.rtgs_book.specs.declared.book.Book.{Book}
 use Rattle.rtgs_book.specs.declared.change.RowChange.{RowChange}
 use Rattle.rtgs_book.specs.Changes.{IsChange}
@@ -68,25 +67,6 @@ done laws g old new rows made before after holds change forms = (
   with_changes holds.0 rows,
   made holds.0 holds.1 (laws.in_order before after rows holds.0 holds.2 change),
   laws.changes before after rows holds.0 holds.2 change forms,
-)
-
-pub rests_same : (content : Content) (old new : State) → Rests content old → IsUnchanged old new → Rests content new
-rests_same content old new rests same = record {
-  known = rests.known;
-  is_open = same.0.is_open;
-  schema = ap (λ (d : Database). d.schema) same.0.committed_is ∙ rests.schema;
-  holds = subst (λ (d : Database). Holds content d.trees) (sym same.0.committed_is) rests.holds;
-  clean = same.0.now_is ∙ rests.clean ∙ sym same.0.committed_is;
-}
-
-pub same_book : {S : Type 0} (g : Ghosts S) (old mid new : Held S)
-    → ((content : Content) → Rests content (state g old) → IsTrue (state g mid).is_open → Rests content (state g mid))
-    → IsUnchanged (state g mid) (state g new) → (book : Book) → HoldsBook g old book → HoldsBook g new book
-same_book g old mid new undone same book holds = (
-  holds.0,
-  rests_same holds.0 (state g mid) (state g new)
-      (undone holds.0 holds.1 same.0.was_open) same,
-  holds.2,
 )
 
 -- ---- a stop leaves a book

@@ -1,6 +1,6 @@
 -- What a reader has left, by what was read of it.
-use Rattle.std.proofs.Common.{◌≡◌, ℕ, List, [], ◌++◌, Option, Some, None, sym, ap, ◌∙◌, subst, append_assoc, append-nil}
-use Rattle.std.specs.Io.KnownBytes.{Consumes, IsAtEnd}
+use Rattle.std.proofs.Common.{ℕ, List, [], ◌++◌, Option, Some, None, sym, ap, ◌∙◌, subst, append_assoc}
+use Rattle.std.specs.Io.KnownBytes.{Consumes}
 use Rattle.rtgs_http_server.specs.input.Input.{OfInput}
 
 -- what holds of all bytes holds of those that are left
@@ -21,27 +21,9 @@ consumed None b bs Q e f = (bs ++ [], f [])
 consumed (Some x) None bs Q e f = absurd e
 consumed (Some x) (Some y) bs Q e f = subst Q (sym e) (f y)
 
-pub consumed_on : (a b : Option (List ℕ)) (bs : List ℕ) (P Q : List ℕ → Type 0) → Consumes a b bs
-    → ((rest : List ℕ) → P rest → Q (bs ++ rest)) → OfInput b P → OfInput a Q
-consumed_on None None bs P Q e f h = (bs ++ h.0, f h.0 h.1)
-consumed_on None (Some y) bs P Q e f h = (bs ++ y, f y h)
-consumed_on (Some x) None bs P Q e f h = absurd e
-consumed_on (Some x) (Some y) bs P Q e f h = subst Q (sym e) (f y h)
-
--- at the end all were read
-pub consumed_all : (a b : Option (List ℕ)) (bs : List ℕ) (Q : List ℕ → Type 0) → Consumes a b bs → IsAtEnd b → Q bs
-    → OfInput a Q
-consumed_all None b bs Q e end h = (bs, h)
-consumed_all (Some x) None bs Q e end h = absurd e
-consumed_all (Some x) (Some y) bs Q e end h = subst Q (sym (e ∙ ap (λ l. bs ++ l) end ∙ append-nil bs)) h
-
 pub consumes_more : (a b c : Option (List ℕ)) (bs cs : List ℕ) → Consumes a b bs → Consumes b c cs
     → Consumes a c (bs ++ cs)
 consumes_more None b c bs cs p q = tt
 consumes_more (Some x) None c bs cs p q = absurd p
 consumes_more (Some x) (Some y) None bs cs p q = absurd q
 consumes_more (Some x) (Some y) (Some z) bs cs p q = p ∙ ap (λ l. bs ++ l) q ∙ sym (append_assoc bs cs z)
-
-pub consumes_none : (a : Option (List ℕ)) (bs : List ℕ) → bs ≡ [] → Consumes a a bs
-consumes_none None bs e = tt
-consumes_none (Some x) bs e = ap (λ l. l ++ x) (sym e)

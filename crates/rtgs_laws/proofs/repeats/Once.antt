@@ -34,10 +34,6 @@ pub or_second : (a b c : Bool) → b ≡ true → (a || (b || c)) ≡ true
 or_second true b c e = refl
 or_second false b c e = rw e refl
 
-pub book_as : (old new : Book) (reply : OwnReply) (outcome : Outcome) → record { reply = reply; book = new } ≡ outcome
-    → outcome.book ≡ old → new ≡ old
-book_as old new reply outcome e same = ap (λ (o : Outcome). o.book) e ∙ same
-
 -- what the book has is answered, and does not act
 own_recorded : (old new : Book) (command : Command) (reply : OwnReply) → is_recorded old command ≡ true
     → OwnStep old command reply new → is_done reply ≡ false

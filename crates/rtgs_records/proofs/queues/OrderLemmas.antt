@@ -721,24 +721,6 @@ waiting_twice (o ∷ os) = by (is_waiting o) refl (waiting_twice os)
     by true e rest = rw e (ap (λ ys. o ∷ ys) rest)
     by false e rest = rest
 
-pub waiting_end : (os : List Order) (o : Order) → filter is_waiting (os ++ o ∷ [])
-    ≡ cond (is_waiting o) (filter is_waiting os ++ o ∷ []) (filter is_waiting os)
-waiting_end [] o = by (is_waiting o)
-  where
-    by : (b : Bool) → cond b (o ∷ []) [] ≡ cond b (o ∷ []) []
-    by b = refl
-waiting_end (x ∷ xs) o = by (is_waiting x) (is_waiting o) (waiting_end xs o)
-  where
-    by : (a b : Bool) → filter is_waiting (xs ++ o ∷ []) ≡ cond b (filter is_waiting xs ++ o ∷ []) (filter is_waiting
-        xs)
-        → cond a (x ∷ filter is_waiting (xs ++ o ∷ [])) (filter is_waiting (xs ++ o ∷ []))
-        ≡ cond b (cond a (x ∷ filter is_waiting xs) (filter is_waiting xs) ++ o ∷ [])
-        (cond a (x ∷ filter is_waiting xs) (filter is_waiting xs))
-    by true true rest = ap (λ ys. x ∷ ys) rest
-    by true false rest = ap (λ ys. x ∷ ys) rest
-    by false true rest = rest
-    by false false rest = rest
-
 -- ---- loading
 
 -- the places of the orders so far
