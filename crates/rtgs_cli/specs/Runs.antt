@@ -83,7 +83,7 @@ module _ {A K U C : Type 0} (book_file : OverFile K U C) where
       PrintsText (HasSent book_file sender touched) printed old new
   PrintsFor (Read file reading) touched printed old new = readings.Shows book_file reading touched printed old new
   PrintsFor (Serve file port count operator) touched printed old new =
-      Serves book_file port count operator touched printed old new
+      Serves book_file (record { port = port; count = count; operator = operator }) touched printed old new
 
   -- Why a run with this request is refused, and what it leaves on standard output: nothing, or the beginning of a
   -- statement that was refused after some of its rows.

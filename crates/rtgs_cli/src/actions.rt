@@ -10,7 +10,7 @@ use rtgs_cli_commands::{answer, make_book, migrate_book};
 use rtgs_cli_files::{Acted, Used};
 use rtgs_cli_imports::{OrderFile, import};
 use rtgs_cli_readings::show;
-use rtgs_cli_serving::{NoPort, serve};
+use rtgs_cli_serving::{NoPort, Service, serve};
 use rtgs_http_server::Port;
 use rtgs_keeper::Keeper;
 use std::io::Write;
@@ -49,6 +49,13 @@ pub fn act<B: BookFile, O: Write>(
             port,
             count,
             operator,
-        } => serve(rt, file, port, count, operator, start, out),
+        } => {
+            let service = Service {
+                port,
+                count,
+                operator,
+            };
+            serve(rt, file, &service, start, out)
+        }
     }
 }

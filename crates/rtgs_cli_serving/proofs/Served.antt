@@ -18,6 +18,7 @@ use Rattle.rtgs_cli_files.specs.declared.touched.Touched.TheVariants as traces
 use Rattle.rtgs_cli_serving.specs.Serving.{IsNotListening, IsNotServed, IsServed, Serves, ServedOver, TakesAt}
 use Rattle.rtgs_cli_serving.specs.Serving.{server_text, stop_of_desk}
 use Rattle.rtgs_cli_serving.specs.declared.no_port.NoPort.{NoPort}
+use Rattle.rtgs_cli_serving.specs.declared.service.Service.{Service}
 
 module _ {K U C : Type 0} (file : OverFile K U C) {opened lent left finished : Seen K} (lends : lent ≡ opened)
     (same : finished ≡ left) (over : file.keeper.is_honest opened.keeper → file.facts.was_opened opened)
@@ -53,21 +54,21 @@ module _ {K B U C E F : Type 0} (A : Type 0) (file : OverFile K U C) (desk_of : 
   abbrev touched : Touched A U C (Used F (Snapshot Port) (Snapshot NoPort))
   touched = traces.Book closed beside
 
-  module _ (port count : ℕ) (operator : List ℕ) (old new : Option (List ℕ)) where
+  module _ (service : Service) (old new : Option (List ℕ)) where
     -- what a server whose desk failed, or did not, has to print, and where it stops
     abbrev IsSaid : Bool → Printed → Type 0
-    IsSaid failed printed = Prints (server_text port count failed) (stop_of_desk failed) printed old new
+    IsSaid failed printed = Prints (server_text service.port service.count failed) (stop_of_desk failed) printed old new
 
     pub served_with : (done : Result Printed Failure) → finished ≡ Ok (book, (done, beside))
         → IfOk finished (λ p. IfOk p.1.0 (λ printed.
-        IsServed file operator (desk_of p.0) × IsSaid (file.keeper.has_failed (desk_of p.0).keeper) printed))
-        → IfOk finished (λ p. IfOk p.1.0 (λ printed. TakesAt port count p.1.1 printed old new))
-        → IfOk done (λ printed. Serves file port count operator touched printed old new)
+        IsServed file service.operator (desk_of p.0) × IsSaid (file.keeper.has_failed (desk_of p.0).keeper) printed))
+        → IfOk finished (λ p. IfOk p.1.0 (λ printed. TakesAt service p.1.1 printed old new))
+        → IfOk done (λ printed. Serves file service touched printed old new)
     served_with (Ok printed) is served takes =
-        let it = IfOk-at_ok (λ p. IfOk p.1.0 (λ printed. IsServed file operator (desk_of p.0)
+        let it = IfOk-at_ok (λ p. IfOk p.1.0 (λ printed. IsServed file service.operator (desk_of p.0)
         × IsSaid (file.keeper.has_failed (desk_of p.0).keeper) printed)) is served in (
           (_, _, (desk_of book, (closed, refl, shut), it.0, refl, refl), it.1),
-          IfOk-at_ok (λ p. IfOk p.1.0 (λ printed. TakesAt port count p.1.1 printed old new)) is takes,
+          IfOk-at_ok (λ p. IfOk p.1.0 (λ printed. TakesAt service p.1.1 printed old new)) is takes,
         )
     served_with (Err why) is served takes = tt
 

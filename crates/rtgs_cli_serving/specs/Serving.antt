@@ -28,6 +28,7 @@ use Rattle.rtgs_cli_files.specs.declared.used.Used.{Used}
 use Rattle.rtgs_cli_files.specs.declared.used.Used.TheVariants as used
 use Rattle.rtgs_cli_files.specs.declared.touched.Touched.{Touched}
 use Rattle.rtgs_cli_serving.specs.declared.no_port.NoPort.{NoPort}
+use Rattle.rtgs_cli_serving.specs.declared.service.Service.{Service}
 
 -- lack of memory, or a port that cannot be had
 abbrev pub failure_of_listening : ErrorKind → Failure
@@ -50,11 +51,12 @@ abbrev pub TakesAsPrinted : ℕ → ℕ → ℕ → Printed → Option (List ℕ
 TakesAsPrinted port count left printed old new = (printed ≡ Whole → left ≡ 0)
     × ((left ≡ count) ⊎ ((rest : List ℕ) × Appends old new (ended_line (done_line (Listening port)) ++ rest)))
 
--- the same of the port that a run met
-abbrev pub TakesAt : {F N : Type 0} → ℕ → ℕ → Used F (Snapshot Port) N → Printed → Option (List ℕ) → Option (List ℕ)
+-- the same of a service and the port that a run met
+abbrev pub TakesAt : {F N : Type 0} → Service → Used F (Snapshot Port) N → Printed → Option (List ℕ) → Option (List ℕ)
     → Type 0
-TakesAt port count (used.Port left) printed old new = TakesAsPrinted port count left.value.left printed old new
-TakesAt port count _ printed old new = ⊥
+TakesAt service (used.Port left) printed old new =
+    TakesAsPrinted service.port service.count left.value.left printed old new
+TakesAt service _ printed old new = ⊥
 
 -- a server stops where its desk has failed
 abbrev pub stop_of_desk : Bool → Option Refusal
@@ -74,20 +76,19 @@ module _ {K U C : Type 0} (file : OverFile K U C) where
   IsServed operator left = IsDone file left (λ book. ServedOver operator book left)
 
 module _ {A K U C F : Type 0} (file : OverFile K U C) where
-  -- what a run that serves so many connections on a port has to print, and where it stops: the lines of its server
-  abbrev pub HasServed : ℕ → ℕ → List ℕ → Touched A U C (Used F (Snapshot Port) (Snapshot NoPort)) → List ℕ
+  -- what a run that serves has to print, and where it stops: the lines of its server
+  abbrev pub HasServed : Service → Touched A U C (Used F (Snapshot Port) (Snapshot NoPort)) → List ℕ
       → Option Refusal → Type 0
-  HasServed port count operator touched text stopped =
-      (left : Seen K) × IsClosed file left (used_of touched) touched × IsServed file operator left
-      × (text ≡ server_text port count (file.keeper.has_failed left.keeper))
+  HasServed service touched text stopped =
+      (left : Seen K) × IsClosed file left (used_of touched) touched × IsServed file service.operator left
+      × (text ≡ server_text service.port service.count (file.keeper.has_failed left.keeper))
       × (stopped ≡ stop_of_desk (file.keeper.has_failed left.keeper))
 
   -- the run printed these, as far as standard output took them, and took its connections as it said
-  abbrev pub Serves : ℕ → ℕ → List ℕ → Touched A U C (Used F (Snapshot Port) (Snapshot NoPort)) → Printed
+  abbrev pub Serves : Service → Touched A U C (Used F (Snapshot Port) (Snapshot NoPort)) → Printed
       → Option (List ℕ) → Option (List ℕ) → Type 0
-  Serves port count operator touched printed old new =
-      PrintsText (HasServed port count operator touched) printed old new
-      × TakesAt port count (used_of touched) printed old new
+  Serves service touched printed old new =
+      PrintsText (HasServed service touched) printed old new × TakesAt service (used_of touched) printed old new
 
   -- why such a run is refused
   abbrev pub IsNotServed : Touched A U C (Used F (Snapshot Port) (Snapshot NoPort)) → Failure → Type 0

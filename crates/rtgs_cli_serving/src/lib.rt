@@ -2,7 +2,9 @@
 #![tactic(auto)]
 
 mod no_port;
+mod service;
 mod serving;
 
 pub use crate::no_port::NoPort;
+pub use crate::service::Service;
 pub use crate::serving::serve;

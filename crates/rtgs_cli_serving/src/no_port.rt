@@ -3,6 +3,7 @@ ghost use Rattle.std.specs.Prelude.{◌≡◌, IfOk};
 ghost use Rattle.std.specs.IoError.{error_kind};
 ghost use Rattle.rtgs_cli_serving.specs.Serving.{failure_of_listening};
 
+use crate::service::Service;
 use rtgs_book::Refusal;
 use rtgs_cli_lines::Failure;
 use rtgs_http_server::Port;
@@ -16,11 +17,11 @@ pub struct NoPort {
 }
 
 impl NoPort {
-    /// Listens on this port for so many connections.
-    pub(crate) fn unless_listening(rt: &HostRuntime, port: u16, count: u32) -> Result<Port, NoPort>
-        ensures { IfOk result (λ connections. connections.left ≡ count) }
+    /// Listens on the port of a service for its connections.
+    pub(crate) fn unless_listening(rt: &HostRuntime, service: &Service) -> Result<Port, NoPort>
+        ensures { IfOk result (λ connections. connections.left ≡ service.now.count) }
     {
-        match Port::listen(rt, port, count) {
+        match Port::listen(rt, service.port, service.count) {
             Ok(connections) => Ok(connections),
             Err(error) => Err(NoPort { error }),
         }

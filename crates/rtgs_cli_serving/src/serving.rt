@@ -12,6 +12,7 @@ ghost use Rattle.rtgs_cli_serving.specs.Serving.{IsNotListening, IsNotServed, Is
 ghost use Rattle.rtgs_cli_serving.specs.Serving.{server_text, stop_of_desk, TakesAsPrinted, TakesAt};
 
 use crate::no_port::NoPort;
+use crate::service::Service;
 use rtgs_book::Refusal;
 use rtgs_book_file::BookFile;
 use rtgs_cli_files::{Acted, Finished, Touched, Used, close_book, refused};
@@ -20,7 +21,6 @@ use rtgs_desk::Desk;
 use rtgs_http_server::laws::a_desk_at_rest_works_for_all;
 use rtgs_http_server::{Connections, Port, serve_connections};
 use rtgs_keeper::Keeper;
-use rtgs_money::KeyDigest;
 use std::alloc::Global;
 use std::io::Write;
 use std::snapshot::Snapshot;
@@ -28,25 +28,23 @@ use std::snapshot::Snapshot;
 // What a run that serves connections met beside the file of its book: its port, or that it had none.
 type PortUsed<F> = Used<F, Snapshot<Port>, Snapshot<NoPort>>;
 
-/// Serves so many connections to the desk over a file on a port of this machine, one after another, and says so. A run
+/// Serves the connections of a service to the desk over a file, one after another, and says so. A run
 /// whose desk fails ends as stopped, after the connection on which it failed.
 pub fn serve<B: BookFile, O: Write, F>(
     rt: &HostRuntime,
     file: &str,
-    port: u16,
-    count: u32,
-    operator: KeyDigest,
+    service: &Service,
     start: B,
     out: &mut O,
 ) -> Acted<B, Used<F, Snapshot<Port>, Snapshot<NoPort>>>
     ensures printed { IfOk result.0 (λ printed. Serves
-        (over ⟦<B::Kept as Keeper>⟧ B.facts) port count operator result.1 printed
+        (over ⟦<B::Kept as Keeper>⟧ B.facts) service.now result.1 printed
         (O.contents out.old) (O.contents out.new)) }
     ensures refused { IfErr result.0 (IsNotServed (over ⟦<B::Kept as Keeper>⟧ B.facts) result.1) }
     ensures unchanged { OnErr result.0 (out.new ≡ out.old) }
     ensures at { IsOf (over ⟦<B::Kept as Keeper>⟧ B.facts) file.now result.1 }
 {
-    match close_book::<B, _>(serve_book(rt, file, port, count, &operator, start, out)) {
+    match close_book::<B, _>(serve_book(rt, file, service, start, out)) {
         Ok((closed, done)) => {
             let (served, used) = done;
             (served, Touched::Book(closed, used))
@@ -59,19 +57,17 @@ pub fn serve<B: BookFile, O: Write, F>(
 fn serve_book<B: BookFile, O: Write, F>(
     rt: &HostRuntime,
     file: &str,
-    port: u16,
-    count: u32,
-    operator: &KeyDigest,
+    service: &Service,
     start: B,
     out: &mut O,
 ) -> Finished<B, (Result<Printed, Failure>, PortUsed<F>)>
     ensures served { IfOk result (λ (book, done). IfOk done.0 (λ printed.
-        IsServed (over ⟦<B::Kept as Keeper>⟧ B.facts) operator.now book.desk
-        × Prints (server_text port count (⟦<B::Kept as Keeper>⟧.has_failed book.desk.keeper))
+        IsServed (over ⟦<B::Kept as Keeper>⟧ B.facts) service.now.operator book.desk
+        × Prints (server_text service.now.port service.now.count (⟦<B::Kept as Keeper>⟧.has_failed book.desk.keeper))
         (stop_of_desk (⟦<B::Kept as Keeper>⟧.has_failed book.desk.keeper)) printed (O.contents out.old)
         (O.contents out.new))) }
     ensures taken { IfOk result (λ (_, done). IfOk done.0 (λ printed.
-        TakesAt port count done.1 printed (O.contents out.old) (O.contents out.new))) }
+        TakesAt service.now done.1 printed (O.contents out.old) (O.contents out.new))) }
     ensures refused { IfOk result (λ (book, done). IfErr done.0 (λ why. IsNotListening done.1 why
         × IsIdle (over ⟦<B::Kept as Keeper>⟧ B.facts) book.desk)) }
     ensures unopened { IfErr result (λ unopened. B.facts.was_unopened unopened) }
@@ -81,7 +77,7 @@ fn serve_book<B: BookFile, O: Write, F>(
     ensures silent { IfOk result (λ (_, done). OnErr done.0 (out.new ≡ out.old)) }
 {
     let mut book = start.open(rt, file)?;
-    let served = serve_desk::<B, _, _>(rt, book.desk(), port, count, operator, out);
+    let served = serve_desk::<B, _, _>(rt, book.desk(), service, out);
     Ok((book.finish(), served))
 }
 
@@ -90,29 +86,27 @@ fn serve_book<B: BookFile, O: Write, F>(
 fn serve_desk<B: BookFile, O: Write, F>(
     rt: &HostRuntime,
     desk: &mut Desk<B::Kept>,
-    port: u16,
-    count: u32,
-    operator: &KeyDigest,
+    service: &Service,
     out: &mut O,
 ) -> (Result<Printed, Failure>, PortUsed<F>)
     ensures served { IfOk result.0 (λ printed. (⟦<B::Kept as Keeper>⟧.is_honest desk.new.keeper
         → (book : Book) → Holds ⟦<B::Kept as Keeper>⟧ desk.old book
-        → ServedOver (over ⟦<B::Kept as Keeper>⟧ B.facts) operator.now book
+        → ServedOver (over ⟦<B::Kept as Keeper>⟧ B.facts) service.now.operator book
         desk.new)
-        × Prints (server_text port count (⟦<B::Kept as Keeper>⟧.has_failed desk.new.keeper))
+        × Prints (server_text service.now.port service.now.count (⟦<B::Kept as Keeper>⟧.has_failed desk.new.keeper))
         (stop_of_desk (⟦<B::Kept as Keeper>⟧.has_failed desk.new.keeper)) printed (O.contents out.old)
         (O.contents out.new)) }
     ensures taken { IfOk result.0 (λ printed.
-        TakesAt port count result.1 printed (O.contents out.old) (O.contents out.new)) }
+        TakesAt service.now result.1 printed (O.contents out.old) (O.contents out.new)) }
     ensures honest { ⟦<B::Kept as Keeper>⟧.is_honest desk.new.keeper
         → ⟦<B::Kept as Keeper>⟧.is_honest desk.old.keeper }
     ensures refused { IfErr result.0 (IsNotListening result.1) }
     ensures idle { OnErr result.0 (desk.new ≡ desk.old) }
     ensures unchanged { OnErr result.0 (out.new ≡ out.old) }
 {
-    match NoPort::unless_listening(rt, port, count) {
+    match NoPort::unless_listening(rt, service) {
         Ok(mut connections) => {
-            let printed = serve_all(rt.alloc(), &mut connections, desk, operator, port, out);
+            let printed = serve_all(rt.alloc(), &mut connections, desk, service, out);
             B::what_a_session_leaves(desk);
             (Ok(printed), Used::Port(Snapshot::of(&connections)))
         }
@@ -126,24 +120,23 @@ fn serve_all<C: Connections, K: Keeper, O: Write>(
     alloc: Global,
     connections: &mut C,
     desk: &mut Desk<K>,
-    operator: &KeyDigest,
-    port: u16,
+    service: &Service,
     out: &mut O,
 ) -> Printed
     ensures works { K.is_honest desk.new.keeper → (book : Book) → Holds K.Keeper desk.old book
-        → WorksForAll K.Keeper operator.now book desk.new }
+        → WorksForAll K.Keeper service.now.operator book desk.new }
     ensures honest { K.is_honest desk.new.keeper → K.is_honest desk.old.keeper }
-    ensures printed { Prints (server_text port (C.to_come connections.old) (K.has_failed desk.new.keeper))
+    ensures printed { Prints (server_text service.now.port (C.to_come connections.old) (K.has_failed desk.new.keeper))
         (stop_of_desk (K.has_failed desk.new.keeper)) result (O.contents out.old) (O.contents out.new) }
-    ensures taken { TakesAsPrinted port (C.to_come connections.old) (C.to_come connections.new) result
+    ensures taken { TakesAsPrinted service.now.port (C.to_come connections.old) (C.to_come connections.new) result
         (O.contents out.old) (O.contents out.new) }
 {
     a_desk_at_rest_works_for_all(desk);
     let count = connections.left();
-    if let Err(failed) = (Done::Listening { port }).print(out) {
+    if let Err(failed) = (Done::Listening { port: service.port }).print(out) {
         return Printed::Lost(failed);
     }
-    serve_connections(alloc, connections, desk, operator);
+    serve_connections(alloc, connections, desk, &service.operator);
     if desk.failed() {
         return Printed::Stopped(Refusal::Failed);
     }

@@ -6,8 +6,8 @@ use Rattle.rtgs_cli_serving.proofs.serving.serve.Goals as goal
 pub returns-in-Ok-clause-printed : goal.returns-in-Ok-clause-printed
 returns-in-Ok-clause-printed g c =
     let (book, is, shut, named) = c.in-Ok.ensures.done in
-    served_with _ _ (λ book. book.desk) c.serve_book.result book _ c.in-Ok.closed shut c.args.port c.args.count
-    c.args.operator (g.O.Write.contents c.args.out.now) (g.O.Write.contents c.serve_book.new.out) _ is
+    served_with _ _ (λ book. book.desk) c.serve_book.result book _ c.in-Ok.closed shut c.args.service.now
+    (g.O.Write.contents c.args.out.now) (g.O.Write.contents c.serve_book.new.out) _ is
     c.serve_book.ensures.served c.serve_book.ensures.taken
 
 pub returns-in-Ok-clause-refused : goal.returns-in-Ok-clause-refused

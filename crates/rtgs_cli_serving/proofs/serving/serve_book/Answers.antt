@@ -7,7 +7,8 @@ pub returns-clause-served : goal.returns-clause-served
 returns-clause-served g c =
     let it = c.serve_desk-served in
     was_served _ c.desk.ensures.value c.finish.ensures.desk c.in_ok-book.ensures.opened it.ensures.honest it.result.0
-    c.args.operator.now (λ failed printed. Prints (server_text c.args.port c.args.count failed) (stop_of_desk failed)
+    c.args.service.now.operator (λ failed printed.
+    Prints (server_text c.args.service.now.port c.args.service.now.count failed) (stop_of_desk failed)
     printed (g.O.Write.contents c.args.out.now) (g.O.Write.contents it.new.out)) it.ensures.served
 
 pub returns-clause-taken : goal.returns-clause-taken

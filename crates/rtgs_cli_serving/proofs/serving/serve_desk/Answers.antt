@@ -12,16 +12,16 @@ returns-in-Ok-clause-served g c =
           let left = c.what_a_session_leaves.ensures book _ _ made.whole_after_a_crash made.session
           made.calm_after_a_crash in
           (works.0, works.1, works.2, made, left)),
-      subst (λ count. Prints (server_text c.args.port count failed) (stop_of_desk failed) c.serve_all-printed.result
+      subst (λ count. Prints (server_text c.args.service.now.port count failed) (stop_of_desk failed) c.serve_all-printed.result
           (g.O.Write.contents c.args.out.now) (g.O.Write.contents c.serve_all-printed.new.out))
           c.in-Ok.ensures c.serve_all-printed.ensures.printed,
     )
 
 pub returns-in-Ok-clause-taken : goal.returns-in-Ok-clause-taken
 returns-in-Ok-clause-taken g c =
-    subst (λ port. TakesAsPrinted c.args.port c.args.count port.left c.serve_all-printed.result
+    subst (λ port. TakesAsPrinted c.args.service.now.port c.args.service.now.count port.left c.serve_all-printed.result
     (g.O.Write.contents c.args.out.now) (g.O.Write.contents c.serve_all-printed.new.out)) (sym c.of.ensures)
-    (subst (λ count. TakesAsPrinted c.args.port count c.serve_all-printed.new.connections.left
+    (subst (λ count. TakesAsPrinted c.args.service.now.port count c.serve_all-printed.new.connections.left
     c.serve_all-printed.result
     (g.O.Write.contents c.args.out.now) (g.O.Write.contents c.serve_all-printed.new.out)) c.in-Ok.ensures
     c.serve_all-printed.ensures.taken)
