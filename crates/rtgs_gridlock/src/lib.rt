@@ -18,6 +18,3 @@ pub use positions::{Position, Positions};
 pub use queues::{Payment, Queues};
 pub use resolver::greatest;
 pub use workspace::Workspace;
-
-#[cfg(test)]
-mod tests;

@@ -1,9 +1,7 @@
-//! Ledgers, tables, look-ups, desks, files of orders and whole days, over keepers in memory and in a file; and the
-//! resolver alone.
+//! Ledgers, tables, look-ups, desks, files of orders and whole days, over keepers in memory and in a file.
 mod batches;
 mod days;
 mod desk;
-mod gridlock;
 mod ledger;
 mod look_ups;
 mod order_files;

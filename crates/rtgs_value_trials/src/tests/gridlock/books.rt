@@ -1,14 +1,15 @@
 //! Generated books.
 ghost use Rattle.std.specs.Prelude.{◌<◌};
 
-use crate::{OutOfMemory, Payment, Position, Positions, Queues};
+use rtgs_gridlock::{OutOfMemory, Payment, Position, Positions, Queues};
 use std::alloc::{AllocError, Global};
 
-/// The arguments of a resolution.
+/// The arguments of a resolution, and the payments of the queues once more, which the resolver keeps to itself.
 #[derive(Debug, Drop)]
 pub struct ResolverInput {
     pub positions: Positions,
     pub queues: Queues,
+    pub payments: Vec<Vec<Payment>>,
 }
 
 impl ResolverInput {
@@ -17,12 +18,19 @@ impl ResolverInput {
         ResolverInput {
             positions: Positions::new(alloc),
             queues: Queues::new(alloc),
+            payments: Vec::new(alloc),
         }
     }
 
     /// Adds a participant with its queue.
-    pub fn add(&mut self, position: Position, queue: Vec<Payment>) -> Result<(), OutOfMemory> {
+    pub fn add(
+        &mut self,
+        alloc: Global,
+        position: Position,
+        queue: Vec<Payment>,
+    ) -> Result<(), OutOfMemory> {
         self.positions.push(position)?;
+        self.payments.push(queue.as_slice().to_vec(alloc)?)?;
         self.queues.push(queue)
     }
 }
@@ -54,7 +62,7 @@ pub fn small(alloc: Global, number: usize) -> Result<ResolverInput, OutOfMemory>
     for sender in 0..3usize {
         let balance = digits.next(2) as i64;
         let queue = small_queue(alloc, sender, digits.next(21))?;
-        book.add(Position { balance, floor: 0 }, queue)?;
+        book.add(alloc, Position { balance, floor: 0 }, queue)?;
     }
     Ok(book)
 }
@@ -99,7 +107,7 @@ pub fn ring(alloc: Global, participants: usize, each: usize) -> Result<ResolverI
             balance: 0,
             floor: 0,
         };
-        book.add(position, cents_to(alloc, next, each)?)?;
+        book.add(alloc, position, cents_to(alloc, next, each)?)?;
     }
     Ok(book)
 }
@@ -119,7 +127,7 @@ pub fn chain(
             Some(before) => cents_to(alloc, before, each)?,
             None => Vec::new(alloc),
         };
-        book.add(position, queue)?;
+        book.add(alloc, position, queue)?;
     }
     Ok(book)
 }
@@ -148,7 +156,7 @@ pub fn mixed(
             balance: (sender % 5) as i64,
             floor: -i64::from(credit),
         };
-        book.add(position, queue)?;
+        book.add(alloc, position, queue)?;
     }
     Ok(book)
 }

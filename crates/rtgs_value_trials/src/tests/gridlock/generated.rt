@@ -1,12 +1,9 @@
-//! The greatest choice of books that no desk has, which are worked out by hand, and of generated
-//! books beside the published procedure written plainly. What it is of small books that desks have
-//! is told by scenarios, which `rtgs_store_trials` runs.
-mod books;
-mod plain;
-
-use crate::{OutOfMemory, Payment, Position, Workspace, greatest};
-use books::{ResolverInput, SMALL_BOOKS, chain, mixed, ring, small};
-use plain::greatest_plainly;
+//! The greatest choice of books that no desk has, which are worked out by hand, and of generated books beside the
+//! published procedure written plainly.
+use super::books::{ResolverInput, SMALL_BOOKS, chain, mixed, ring, small};
+use super::lengths_of;
+use super::plain::greatest_plainly;
+use rtgs_gridlock::{OutOfMemory, Payment, Position};
 use std::alloc::Global;
 use std::process::Abort;
 use std::test::Fail;
@@ -26,31 +23,15 @@ fn book(alloc: Global, rows: &[(i64, i64, &[(usize, u64)])]) -> Result<ResolverI
             balance: *balance,
             floor: *floor,
         };
-        book.add(position, payments)?;
+        book.add(alloc, position, payments)?;
     }
     Ok(book)
 }
 
-/// The lengths of a book's greatest choice, found in at most n + 3q steps.
-fn lengths(rt: &impl Abort, alloc: Global, book: &ResolverInput) -> Result<Vec<usize>, Fail> {
-    let ResolverInput { positions, queues } = book;
-    let participants = queues.len();
-    let payments = queues.payment_count().ok_or("too many payments")?;
-    let mut workspace = Workspace::reserve(alloc, participants, payments)?;
-    assert_eq!(rt; positions.len(), participants);
-    assert!(rt; positions.are_floored());
-    assert!(rt; queues.are_in_range());
-    assert!(rt; queues.payment_count() == Some(payments));
-    greatest(positions, queues, &mut workspace);
-    let bound = participants as u128 + 3 * payments as u128;
-    assert!(rt; u128::from(workspace.steps()) <= bound);
-    Ok(workspace.lengths().to_vec(alloc)?)
-}
-
 /// Compares the resolver with the plain procedure, and counts the payments that settle.
 fn compared(rt: &impl Abort, alloc: Global, book: &ResolverInput) -> Result<usize, Fail> {
-    let found = lengths(rt, alloc, book)?;
-    let plain = greatest_plainly(alloc, &book.positions, &book.queues)?;
+    let found = lengths_of(alloc, &book.positions, &book.queues)?;
+    let plain = greatest_plainly(alloc, &book.positions, book.payments.as_slice())?;
     assert_eq!(rt; found, plain);
     let settled = found
         .iter()
@@ -70,7 +51,7 @@ fn no_participants(rt: HostRuntime) -> Result<(), Fail> {
     let book = ResolverInput::new(rt.alloc());
     assert!(rt; book.positions.is_empty());
     assert!(rt; book.queues.is_empty());
-    assert!(rt; lengths(&rt, rt.alloc(), &book)?.is_empty());
+    assert!(rt; lengths_of(rt.alloc(), &book.positions, &book.queues)?.is_empty());
     Ok(())
 }
 
@@ -78,7 +59,8 @@ fn no_participants(rt: HostRuntime) -> Result<(), Fail> {
 #[test]
 fn payment_to_oneself_settles(rt: HostRuntime) -> Result<(), Fail> {
     let rows = [(0, 0, [(0, 100), (1, 1)].as_slice()), (0, 0, [].as_slice())];
-    let found = lengths(&rt, rt.alloc(), &book(rt.alloc(), &rows)?)?;
+    let book = book(rt.alloc(), &rows)?;
+    let found = lengths_of(rt.alloc(), &book.positions, &book.queues)?;
     assert_eq!(rt; found.as_slice(), [1, 0].as_slice());
     Ok(())
 }
@@ -94,7 +76,8 @@ fn largest_amounts(rt: HostRuntime) -> Result<(), Fail> {
         ),
         (i64::MIN, i64::MIN, [(0, u64::MAX)].as_slice()),
     ];
-    let found = lengths(&rt, rt.alloc(), &book(rt.alloc(), &rows)?)?;
+    let book = book(rt.alloc(), &rows)?;
+    let found = lengths_of(rt.alloc(), &book.positions, &book.queues)?;
     assert_eq!(rt; found.as_slice(), [2, 1].as_slice());
     Ok(())
 }

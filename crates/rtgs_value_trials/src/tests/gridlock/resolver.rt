@@ -1,5 +1,6 @@
 //! Scenarios for the resolver alone.
-use rtgs_gridlock::{Payment, Position, Positions, Queues, Workspace, greatest};
+use super::lengths_of;
+use rtgs_gridlock::{Payment, Position, Positions, Queues};
 use rtgs_tests_desks::{
     BANK_COUNT, Layer, ScenarioAccount, ScenarioOrder, bank_index, references_of,
 };
@@ -29,31 +30,6 @@ fn payments_of(
         }
     }
     Ok(queue)
-}
-
-/// The lengths of the greatest choice, found in at most n + 3q steps.
-fn lengths_of(alloc: Global, positions: &Positions, queues: &Queues) -> Result<Vec<usize>, Fail> {
-    let participants = queues.len();
-    let payments = queues.payment_count().ok_or("too many payments")?;
-    let mut workspace = Workspace::reserve(alloc, participants, payments)?;
-    if positions.len() != participants {
-        return Err(Fail::from("another number of positions"));
-    }
-    if !positions.are_floored() {
-        return Err(Fail::from("a bank below its floor"));
-    }
-    if !queues.are_in_range() {
-        return Err(Fail::from("a receiver that is no bank"));
-    }
-    if !(queues.payment_count() == Some(payments)) {
-        return Err(Fail::from("another number of payments"));
-    }
-    greatest(positions, queues, &mut workspace);
-    let bound = participants as u128 + 3 * payments as u128;
-    if u128::from(workspace.steps()) > bound {
-        return Err(Fail::from("too many steps"));
-    }
-    Ok(workspace.lengths().to_vec(alloc)?)
 }
 
 /// The references of the orders that beginnings of these lengths have, in the order in which they came.

@@ -1,6 +1,6 @@
 //! The greatest choice by the published procedure, written as plainly as can be: every position is
 //! summed afresh at each turn (Bech and Soramäki 2001).
-use crate::{Payment, Positions, Queues};
+use rtgs_gridlock::{Payment, Positions};
 use std::alloc::{AllocError, Global};
 use std::test::Fail;
 
@@ -9,11 +9,13 @@ use std::test::Fail;
 pub fn greatest_plainly(
     alloc: Global,
     positions: &Positions,
-    queues: &Queues,
+    queues: &[Vec<Payment>],
 ) -> Result<Vec<usize>, Fail> {
     let mut lengths = all(alloc, queues)?;
-    let payments = queues.payment_count().ok_or("too many payments")?;
-    for _ in 0..payments {
+    let payments = lengths
+        .iter()
+        .try_fold(0usize, |sum, length| sum.checked_add(*length));
+    for _ in 0..payments.ok_or("too many payments")? {
         let Some(short) = first_short(alloc, positions, queues, &lengths)? else {
             return Ok(lengths);
         };
@@ -24,10 +26,10 @@ pub fn greatest_plainly(
 }
 
 /// The lengths of all queues.
-fn all(alloc: Global, queues: &Queues) -> Result<Vec<usize>, AllocError> {
+fn all(alloc: Global, queues: &[Vec<Payment>]) -> Result<Vec<usize>, AllocError> {
     let mut lengths = Vec::new(alloc);
-    for index in 0..queues.len() {
-        lengths.push(queues.queue(index).len())?;
+    for queue in queues {
+        lengths.push(queue.len())?;
     }
     Ok(lengths)
 }
@@ -36,16 +38,16 @@ fn all(alloc: Global, queues: &Queues) -> Result<Vec<usize>, AllocError> {
 fn first_short(
     alloc: Global,
     positions: &Positions,
-    queues: &Queues,
+    queues: &[Vec<Payment>],
     lengths: &[usize],
 ) -> Result<Option<usize>, Fail> {
     let mut after = Vec::new(alloc);
     for position in positions.iter() {
         after.push(i128::from(position.balance))?;
     }
-    for sender in 0..queues.len() {
+    for (sender, queue) in queues.iter().enumerate() {
         let length = lengths.get(sender).copied().ok_or("no such sender")?;
-        settle(&mut after, sender, queues.queue(sender), length)?;
+        settle(&mut after, sender, queue.as_slice(), length)?;
     }
     let short = positions
         .iter()
