@@ -37,36 +37,56 @@ fn tries(rt: &HostRuntime, name: &str, lines: &str) -> Result<(), Fail> {
 // It settles between two banks of which no order waits.
 #[test]
 fn order_between_others(rt: HostRuntime) -> Result<(), Fail> {
-    let lines = "post GAMA P-2 5\n> order GAMA G-1 BETA 5";
+    let lines = "post GAMA P-2 5\norder GAMA G-1 BETA 5 => Ok(Settled { number: 3, mark: 1 })";
     tries(&rt, "order_between_others", lines)
 }
 
 // It waits behind two, and its sender could not pay it whatever came in.
 #[test]
 fn order_behind_two(rt: HostRuntime) -> Result<(), Fail> {
-    tries(&rt, "order_behind_two", "> order ALFA A-3 BETA 7")
+    tries(
+        &rt,
+        "order_behind_two",
+        "order ALFA A-3 BETA 7 => Ok(Queued { number: 3, place: 3 })",
+    )
 }
 
 // No order of the bank waits.
 #[test]
 fn post_to_another(rt: HostRuntime) -> Result<(), Fail> {
-    tries(&rt, "post_to_another", "> post BETA P-2 50")
+    tries(
+        &rt,
+        "post_to_another",
+        "post BETA P-2 50 => Ok(Posted { number: 2 })",
+    )
 }
 
 // It does not cover the first of two orders.
 #[test]
 fn post_that_covers_none(rt: HostRuntime) -> Result<(), Fail> {
-    tries(&rt, "post_that_covers_none", "> post ALFA P-2 1")
+    tries(
+        &rt,
+        "post_that_covers_none",
+        "post ALFA P-2 1 => Ok(Posted { number: 2 })",
+    )
 }
 
 // No order of the bank waits.
 #[test]
 fn set_credit_of_another(rt: HostRuntime) -> Result<(), Fail> {
-    tries(&rt, "set_credit_of_another", "> credit BETA 50")
+    tries(
+        &rt,
+        "set_credit_of_another",
+        "credit BETA 50 => Ok(CreditSet)",
+    )
 }
 
 // It is the last of its queue.
 #[test]
 fn withdraw_the_last(rt: HostRuntime) -> Result<(), Fail> {
-    tries(&rt, "withdraw_the_last", "> withdraw ALFA A-2")
+    tries(
+        &rt,
+        "withdraw_the_last",
+        "withdraw ALFA A-2 => Ok(Withdrawn { number: 2 })",
+    )
 }

@@ -35,6 +35,11 @@ pub trait Call {
     /// What an answer comes to that is not the one with ample memory.
     fn outcome(&self, answer: &Self::Answer) -> Outcome;
 
+    /// Whether an answer is the one with ample memory.
+    fn is_ample(&self, _alloc: Global, answer: &Self::Answer) -> Result<bool, Fail> {
+        Ok(self.outcome(answer) == Outcome::Other)
+    }
+
     /// The state as it is found after a crash.
     fn reopened(&self, alloc: Global, state: Self::State) -> Result<Self::State, Fail>;
 

@@ -24,8 +24,8 @@ impl Ample {
     fn from_state<C: Call>(alloc: Global, call: &C, state: &mut C::State) -> Result<Ample, Fail> {
         let before = call.seen(alloc, state)?;
         let answer = call.call(alloc, state);
-        if call.outcome(&answer) != Outcome::Other {
-            return Err(Fail::from("it is refused with ample memory"));
+        if !call.is_ample(alloc, &answer)? {
+            return Err(Fail::from("it is refused with ample memory, or answered otherwise"));
         }
         let answer = format!(in alloc; "{answer:?}")?;
         let after = call.seen(alloc, state)?;

@@ -7,7 +7,7 @@ use rtgs_book::{Command, NewOrder, Refusal, WholeAnswer};
 use rtgs_desk::Desk;
 use rtgs_keeper::Keeper;
 use rtgs_money::BusinessDate;
-use rtgs_tests_desks::{command, desk_over};
+use rtgs_tests_desks::{command, desk_over, is_expected};
 use std::alloc::Global;
 use std::test::Fail;
 
@@ -55,6 +55,10 @@ where
             Err(Refusal::StoreFault) if self.store.may_fail() => Outcome::Faulted,
             _ => Outcome::Other,
         }
+    }
+
+    fn is_ample(&self, alloc: Global, answer: &Result<WholeAnswer, Refusal>) -> Result<bool, Fail> {
+        is_expected(alloc, answer, self.worked.line, false)
     }
 
     fn reopened(
