@@ -19,7 +19,7 @@ import typing
 import kit
 from lib import desks, manual, runs
 
-OLD = f"{kit.TOP}/crates/kept_books/data/closed.desk"
+OLD = f"{kit.TOP}/kept_books/closed.desk"
 END = "-- end of a command --"
 SHOWN = re.compile(r"    \$ ")
 SHOWN_TO_BANKS = re.compile(r"    (curl|printf|KEY=|DESK=)")

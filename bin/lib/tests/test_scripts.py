@@ -67,8 +67,8 @@ class Help(Scripts):
 
     def test_each_check_has_help_that_starts_nothing(self):
         listed = [it.split()[0] for it in self.run_script("checks", "--list").stdout.splitlines()]
-        wanted = ("clients copies creations documents edges handbooks hostile-files install kills migrations openapi "
-                  "plants proxy refusals")
+        wanted = ("clients copies creations documents edges handbooks hostile-files install kept-books kills "
+                  "migrations openapi plants proxy refusals")
         self.assertEqual(sorted(listed), wanted.split())
         for name in listed:
             self.assertIn("--no-evidence", self.run_script("checks", name, "--help").stdout)
