@@ -128,7 +128,14 @@ class Kit(Scripts):
         head, machine, _, table, *_, last = self.read("evidence/gate.txt").splitlines()
         self.assertRegex(head, "^bin/gate-times --memory 0.5 --anew over .*, by a kit of the tests$")
         self.assertRegex(machine, r"^\d+ seconds on 2 processors, ended ")
-        self.assertEqual((table, last), (lines[1], "2 passed, 0 failed"))
+        self.assertEqual((lines[1][:6], table, last), ("rt: ok", lines[2], "2 passed, 0 failed"))
+        self.assertIn("the gate: 0.0 lane-minutes, within the limit of 260", lines)
+
+    def test_a_gate_that_kept_a_proof_is_not_compared_with_the_limit(self):
+        found = [it for it in self.run_script("gate-times").stdout.splitlines() if "lane-minutes, " in it]
+        self.assertEqual(len(found), 2)
+        for it in found:
+            self.assertRegex(it, "0.0 lane-minutes, the rest was kept from earlier runs, so the limit of .* is not")
 
     def test_the_gate_of_some_crates_writes_none(self):
         self.assertIn("ran ci low", self.run_script("gate-times", "low").stdout)
