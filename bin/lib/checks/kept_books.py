@@ -3,6 +3,7 @@
 The books stand in kept_books, with the words of each run and what the program of their time printed: the
 program must print the same, to the byte.
 """
+import os
 import shutil
 import tempfile
 
@@ -30,10 +31,12 @@ def parts(printed):
 
 def run(_given, report):
     asked, wanted = kept("asked"), parts(kept("printed"))
+    books = sorted(it for it in os.listdir(KEPT) if it.endswith(".desk"))
     report.sees("the runs", len(asked), len(wanted))
+    report.sees("the books that are asked for", sorted({it.split()[1] for it in asked}), books)
     with tempfile.TemporaryDirectory(prefix="kept-books-") as folder:
-        books = shutil.copytree(KEPT, f"{folder}/books")
+        here = shutil.copytree(KEPT, f"{folder}/books")
         for words, text in zip(asked, wanted):
-            ran = runs.run(*words.split(), cwd=books)
+            ran = runs.run(*words.split(), cwd=here)
             report.sees(f"desk {words.strip()}", f"$ desk {words}{ran.out}{ran.err}", text)
-    report.finds(f"{len(asked)} runs over {len({it.split()[1] for it in asked})} books of earlier versions")
+    report.finds(f"{len(asked)} runs over {len(books)} books of earlier versions")
