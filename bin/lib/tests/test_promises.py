@@ -76,10 +76,10 @@ class Promises(unittest.TestCase):
     def test_the_lists_of_each_public_module_are_written_once(self):
         counts = ["  2 first::one", "  3 second::both", "  0 second::none"]
         self.assertEqual(self.run_script(), (0, counts))
-        self.assertIn("// To judge it, read these 2 files, 2 definitions: rtgs_book Books, Days.\npub fn one()",
+        self.assertIn("// To judge it, read these 2 files: rtgs_book Books, Days.\npub fn one()",
                       self.read("first"))
         second = self.read("second")
-        self.assertIn("// To judge it, read these 3 files, 3 definitions: rtgs_promises Own; rtgs_book Books, Days.\n"
+        self.assertIn("// To judge it, read these 3 files: rtgs_promises Own; rtgs_book Books, Days.\n"
                       "pub fn both()", second)
         self.assertIn("// To judge it, read no file.\npub fn none()", second)
         self.assertEqual(self.read("hidden"), HIDDEN)

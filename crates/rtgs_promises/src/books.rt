@@ -51,7 +51,7 @@ use rtgs_laws::repeats::laws::{
 
 /// **Promise 3, and there is but one.** From a sound book each list of commands has exactly one list of replies and one
 /// book after it, which is sound again.
-// To judge it, read these 12 files, 142 definitions: rtgs_book Soundness, Run; the ten of a command.
+// To judge it, read these 12 files: rtgs_book Soundness, Run; the ten of a command.
 pub fn commands_have_one_run()
     ensures some { (start : Book) (commands : List Command) → IsSound start
         → (replies : List Reply) × (last : Book) × Run start commands replies last × IsSound last }
@@ -67,8 +67,7 @@ pub fn commands_have_one_run()
 /// of queue beginnings that leaves nobody below its floor, or there was nothing to settle: one that is asked for, and
 /// one that follows a command on an automatic day. There is exactly one such choice. No command leaves anybody below
 /// its floor.
-// To judge it, read these 13 files, 145 definitions: rtgs_promises Headline; the ten of a command; rtgs_book Run,
-// Soundness.
+// To judge it, read these 13 files: rtgs_promises Headline; the ten of a command; rtgs_book Run, Soundness.
 pub fn each_resolution_settles_the_greatest_choice()
     ensures one { (old new : Book) (command : Command) (reply : Reply) → Step old command reply new
         → Resolves old command reply new }
@@ -90,7 +89,7 @@ pub fn each_resolution_settles_the_greatest_choice()
 /// **Promise 6. An automatic day leaves nothing that could settle.** After a command that a resolution follows, no
 /// choice of queued orders could be settled, whatever was before. Once that is so it stays so, whatever is commanded,
 /// and over any number of crashes, in each book that one of them left.
-// To judge it, read these 14 files, 152 definitions: the ten of a command; rtgs_book Soundness, Calm, Run, Session.
+// To judge it, read these 14 files: the ten of a command; rtgs_book Soundness, Calm, Run, Session.
 pub fn an_automatic_day_leaves_nothing_to_settle()
     ensures followed { (old new : Book) (command : Command) (reply : Reply) → IsSound old
         → (s : Step old command reply new) → is_followed command s.0 ≡ true → IsCalm new }
@@ -109,8 +108,7 @@ pub fn an_automatic_day_leaves_nothing_to_settle()
 
 /// **Promise 7. Money is neither made nor lost.** All balances together are what was posted, and accepted postings
 /// alone move their sum.
-// To judge it, read these 14 files, 147 definitions: rtgs_book Soundness, Run, Laws; the ten of a command; rtgs_laws
-// repeats.Lasting.
+// To judge it, read these 14 files: rtgs_book Soundness, Run, Laws; the ten of a command; rtgs_laws repeats.Lasting.
 pub fn money_is_what_was_posted()
     ensures posted { (book : Book) → IsSound book → total book ≡ issued book }
     ensures moved { (start last : Book) (commands : List Command) (replies : List Reply) → IsSound start
@@ -121,9 +119,10 @@ pub fn money_is_what_was_posted()
 }
 
 /// **Promise 8. What is final stays.** A mark and a settled order stand unchanged in every later book. So do a
-/// participant's name and key, a posting, and of each order its number, receiver, amount and due date.
-// To judge it, read these 15 files, 147 definitions: the ten of a command; rtgs_book Soundness, Run, Laws, Procedure;
-// rtgs_laws repeats.Kept.
+/// participant's name and key, a posting, and of each order its number and all that it said when sent: receiver, amount
+/// and due date.
+// To judge it, read these 15 files: the ten of a command; rtgs_book Soundness, Run, Laws, Procedure; rtgs_laws
+// repeats.Kept.
 pub fn what_is_final_stays()
     ensures settled { (old new : Book) (commands : List Command) (replies : List Reply) → IsSound old
         → Run old commands replies new → KeepsWhatIsFinal old new }
@@ -136,7 +135,7 @@ pub fn what_is_final_stays()
 
 /// **Promise 9. Nothing settles before its due date.** No order is settled under a mark that is dated before the
 /// order's due date, in no sound book, and so in none to which commands lead from one.
-// To judge it, read these 14 files, 145 definitions: rtgs_book Soundness, Laws, Run, Procedure; the ten of a command.
+// To judge it, read these 14 files: rtgs_book Soundness, Laws, Run, Procedure; the ten of a command.
 pub fn nothing_settles_early()
     ensures sound { (book : Book) → IsSound book → NothingSettlesEarly book }
     ensures later { (start last : Book) (commands : List Command) (replies : List Reply) → IsSound start
@@ -149,8 +148,8 @@ pub fn nothing_settles_early()
 /// **Promise 10. What is sent twice acts once.** An addition, posting, order or withdrawal that was accepted is
 /// answered as a repeat whenever it comes again, with the number that it was answered, and changes nothing. Of each
 /// order and posting one is enough: the list without the others ends in the same book, with the same replies.
-// To judge it, read these 15 files, 156 definitions: the ten of a command; rtgs_book Soundness, Run; rtgs_laws
-// repeats.Repeats, repeats.Lasting, repeats.Once.
+// To judge it, read these 15 files: the ten of a command; rtgs_book Soundness, Run; rtgs_laws repeats.Repeats,
+// repeats.Lasting, repeats.Once.
 pub fn what_is_sent_twice_acts_once()
     ensures known { (old new : Book) (command : Command) (reply : Reply) → IsSound old → acts_once command ≡ true
         → is_accepted reply ≡ true → Step old command reply new → IsKnown new command reply }
@@ -165,8 +164,7 @@ pub fn what_is_sent_twice_acts_once()
 /// **Promise 11. A batch can be sent again.** A batch of orders of one sender that stopped anywhere, also by a crash,
 /// and is sent again from its first, ends as if it had been sent once. The order at which it stopped may have acted or
 /// not. On an automatic day no order before the stop may have met a full queue: it could be taken the second time.
-// To judge it, read these 14 files, 154 definitions: rtgs_book Run, Soundness, Session; the ten of a command; rtgs_laws
-// repeats.Batch.
+// To judge it, read these 14 files: rtgs_book Run, Soundness, Session; the ten of a command; rtgs_laws repeats.Batch.
 pub fn a_batch_sent_again_ends_as_if_sent_once()
     ensures { (start mid found last end : Book) (sender : List ℕ) (first rest : List Command)
         (said again once : List Reply) → IsSound start → AllByRecursion (IsOrderOf sender) (first ++ rest)
@@ -179,8 +177,8 @@ pub fn a_batch_sent_again_ends_as_if_sent_once()
 
 /// **Promise 14. A resolution takes few steps.** With n participants and q queued orders the resolver finds the book's
 /// greatest choice in at most n + 3q steps, a step being one cover test or one removal.
-// To judge it, read these 11 files, 79 definitions: rtgs_gridlock Choices, Workspaces; rtgs_book Soundness, Choice,
-// Lookup, Books, Queue, Settle, Balance; rtgs_choices ByIndex; rtgs_money Date.
+// To judge it, read these 11 files: rtgs_gridlock Choices, Workspaces; rtgs_book Soundness, Choice, Lookup, Books,
+// Queue, Settle, Balance; rtgs_choices ByIndex; rtgs_money Date.
 pub fn the_greatest_choice_takes_few_steps(
     positions: &Positions,
     queues: &Queues,
@@ -198,7 +196,7 @@ pub fn the_greatest_choice_takes_few_steps(
 
 /// **Promise 14. And a close rejects deadlocks alone.** When a day is closed, no order that was still queued could have
 /// been settled by a resolution. The answer counts those that were queued.
-// To judge it, read these 10 files, 114 definitions: the ten of a command.
+// To judge it, read these 10 files: the ten of a command.
 pub fn a_close_rejects_deadlocks_alone()
     ensures choice { (old new : Book) (date count : ℕ) (choice : Choice)
         → Step old (CloseDay date) (alone (Ok (Closed count))) new → IsGreatest old choice → chosen old choice ≡ [] }

@@ -46,8 +46,8 @@ use std::alloc::{AllocError, Global};
 /// replies, and lead to the book that the desk then holds. The store fails once at most, and then nothing more is done.
 /// Whatever a crash leaves then is that book, or that book after the one command that met the fault. Without memory for
 /// the replies nothing is done. This holds over any keeper with the trait's laws.
-// To judge it, read these 20 files, 161 definitions: rtgs_desk Holding, Replies, Seen; rtgs_book Run, Session, Calm,
-// cores.Cores, Soundness, Ranges; the ten of a command; rtgs_money Amounts.
+// To judge it, read these 20 files: rtgs_desk Holding, Replies, Seen; rtgs_book Run, Session, Calm, cores.Cores,
+// Soundness, Ranges; the ten of a command; rtgs_money Amounts.
 pub fn answers_are_the_definitions_run<K: Keeper>(
     desk: &mut Desk<K>,
     commands: &[Command],
@@ -67,9 +67,9 @@ pub fn answers_are_the_definitions_run<K: Keeper>(
 
 /// **Promise 4. The tables are the book's rows.** Whatever a crash leaves of a desk at rest are the tables of the book
 /// that it holds, and nothing else.
-// To judge it, read these 23 files, 150 definitions: rtgs_promises Headline; rtgs_desk Holding, Seen; rtgs_book Calm,
-// cores.Cores, Books, Choice, Balance, Soundness, Ranges, Queue, Lookup, Settle; rtgs_rows Content, Keeping, Fitting,
-// Tables, Dues, Rows; rtgs_money Amounts, Date, Forms, Digits.
+// To judge it, read these 23 files: rtgs_promises Headline; rtgs_desk Holding, Seen; rtgs_book Calm, cores.Cores,
+// Books, Choice, Balance, Soundness, Ranges, Queue, Lookup, Settle; rtgs_rows Content, Keeping, Fitting, Tables, Dues,
+// Rows; rtgs_money Amounts, Date, Forms, Digits.
 pub fn tables_are_exactly_the_book<S: Alter + Drop>(desk: &Desk<SqlKeeper<S>>)
     ensures { (book : Book) → Holds ⟦<SqlKeeper<S> as Keeper>⟧ desk.now book
         → LeavesExactly book (state S.Store desk.now.keeper.conn) }
@@ -80,8 +80,8 @@ pub fn tables_are_exactly_the_book<S: Alter + Drop>(desk: &Desk<SqlKeeper<S>>)
 
 /// **Promise 6, as a call: a command and what follows it are one.** Wherever the store fails, a crash leaves the book
 /// before the command, or the one after it and after all that it let settle, and never one between them.
-// To judge it, read these 17 files, 152 definitions: rtgs_desk Holding, Seen; the ten of a command; rtgs_book Calm,
-// cores.Cores, Soundness, Ranges; rtgs_money Amounts.
+// To judge it, read these 17 files: rtgs_desk Holding, Seen; the ten of a command; rtgs_book Calm, cores.Cores,
+// Soundness, Ranges; rtgs_money Amounts.
 pub fn a_command_and_what_follows_are_one<K: Keeper>(
     desk: &mut Desk<K>,
     command: Command,
@@ -96,8 +96,8 @@ pub fn a_command_and_what_follows_are_one<K: Keeper>(
 
 /// **Promise 7, in whatever a crash leaves.** Whichever book this is, the stored balances add up to the postings'
 /// cents.
-// To judge it, read these 16 files, 129 definitions: rtgs_rows Keeping, Content, Fitting, Tables, Dues, Rows; rtgs_book
-// Balance, Soundness, Books, Lookup, Queue, Settle; rtgs_money Date, Forms, Amounts, Digits.
+// To judge it, read these 16 files: rtgs_rows Keeping, Content, Fitting, Tables, Dues, Rows; rtgs_book Balance,
+// Soundness, Books, Lookup, Queue, Settle; rtgs_money Date, Forms, Amounts, Digits.
 pub fn stored_money_is_what_was_posted<S: Alter>(conn: &Connection<S>)
     ensures { IsWhole S.Store conn.now → (trees : Trees) → (state S.Store conn.now).may_leave trees
         → (content : Content) × HoldsRows content trees × AddsUp content }
@@ -107,8 +107,8 @@ pub fn stored_money_is_what_was_posted<S: Alter>(conn: &Connection<S>)
 
 /// **Promise 11, as a call.** A batch is sent, the desk stops, is opened again, and the whole batch is sent once more.
 /// If this sending comes to its end, the desk holds the book that one sending would have made.
-// To judge it, read these 19 files, 161 definitions: rtgs_book Run, Calm, cores.Cores, Soundness, Ranges; the ten of a
-// command; rtgs_desk Holding, batches.Batches, Seen; rtgs_money Amounts.
+// To judge it, read these 19 files: rtgs_book Run, Calm, cores.Cores, Soundness, Ranges; the ten of a command;
+// rtgs_desk Holding, batches.Batches, Seen; rtgs_money Amounts.
 pub fn send_a_batch_twice<S: Alter + Reopen + Drop>(
     alloc: Global,
     desk: Desk<SqlKeeper<S>>,
@@ -135,11 +135,11 @@ pub fn send_a_batch_twice<S: Alter + Reopen + Drop>(
 /// show, and if they held a book it is calm. Where there is none, the fault is 90, 91, 93 or 94, and it is explained by
 /// what the tables show; tables that hold a calm book are refused with 90 or 91 alone, and those that hold another also
 /// as not calm. Whatever it answers, the tables stay as they were found.
-// To judge it, read these 34 files, 225 definitions: rtgs_promises Openings; rtgs_desk Holding, Seen; rtgs_book
-// Soundness, Calm, cores.Cores, Books, Choice, Refusals, Ranges, Lookup, Queue, Settle, Balance, Judgement;
-// rtgs_sql_loading Displaying, Accounts, Joining; rtgs_book_file stored_desk.Stored; rtgs_rows Keeping, Content,
-// Fitting, Dues, TableRecords, Tables, Rows; rtgs_sql_queries Displaying; rtgs_sql_columns Tables, Numbers;
-// rtgs_refusals Table; rtgs_money Date, Amounts, Forms, Digits.
+// To judge it, read these 34 files: rtgs_promises Openings; rtgs_desk Holding, Seen; rtgs_book Soundness, Calm,
+// cores.Cores, Books, Choice, Refusals, Ranges, Lookup, Queue, Settle, Balance, Judgement; rtgs_sql_loading Displaying,
+// Accounts, Joining; rtgs_book_file stored_desk.Stored; rtgs_rows Keeping, Content, Fitting, Dues, TableRecords,
+// Tables, Rows; rtgs_sql_queries Displaying; rtgs_sql_columns Tables, Numbers; rtgs_refusals Table; rtgs_money Date,
+// Amounts, Forms, Digits.
 pub fn opens_a_sound_book_or_names_a_fault<S: Alter + Drop>(
     alloc: Global,
     conn: Connection<S>,

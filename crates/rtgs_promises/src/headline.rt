@@ -53,9 +53,8 @@ use std::alloc::Global;
 /// The function makes the tables, and goes on as `live`, over any store. Premises: nobody else writes the file, and
 /// the disk gives back what was written to it (`HasCleanDisk`, `IsClean`); and the database was just opened and has
 /// nothing in it (`IsEmpty`).
-// To judge it, read these 24 files, 220 definitions: rtgs_promises Headline; the ten of a command; rtgs_book Session,
-// Run, Calm, Laws, Soundness, Procedure; rtgs_laws repeats.Lives; rtgs_rows Content, Keeping, Tables, Dues, Rows;
-// rtgs_money Digits.
+// To judge it, read these 24 files: rtgs_promises Headline; the ten of a command; rtgs_book Session, Run, Calm, Laws,
+// Soundness, Procedure; rtgs_laws repeats.Lives; rtgs_rows Content, Keeping, Tables, Dues, Rows; rtgs_money Digits.
 pub fn make_and_live<S: Alter + Reopen + Drop>(
     alloc: Global,
     conn: Connection<S>,
@@ -86,10 +85,9 @@ pub fn make_and_live<S: Alter + Reopen + Drop>(
 ///
 /// The function opens a desk, gives it the commands of a session, ends that in order, or by a crash wherever its store
 /// then is (a store may fail from any call on, and so inside any write), opens it again over what this left, and so on.
-// To judge it, read these 32 files, 251 definitions: rtgs_promises Headline; rtgs_book_file stored_desk.Stored;
-// rtgs_desk Holding, Seen; rtgs_book Calm, Session, Run, Laws, Soundness, Procedure, cores.Cores, Ranges; the ten of a
-// command; rtgs_laws repeats.Lives; rtgs_rows Content, Keeping, Fitting, Tables, Dues, Rows; rtgs_money Forms, Amounts,
-// Digits.
+// To judge it, read these 32 files: rtgs_promises Headline; rtgs_book_file stored_desk.Stored; rtgs_desk Holding, Seen;
+// rtgs_book Calm, Session, Run, Laws, Soundness, Procedure, cores.Cores, Ranges; the ten of a command; rtgs_laws
+// repeats.Lives; rtgs_rows Content, Keeping, Fitting, Tables, Dues, Rows; rtgs_money Forms, Amounts, Digits.
 pub fn live<S: Alter + Reopen + Drop>(
     alloc: Global,
     conn: Connection<S>,
@@ -138,9 +136,8 @@ pub fn live<S: Alter + Reopen + Drop>(
 }
 
 /// **Promise 1, in memory.** The headline over a database in memory, from the empty one: no premise is left.
-// To judge it, read these 23 files, 173 definitions: rtgs_promises Headline; rtgs_desk Holding, Seen; the ten of a
-// command; rtgs_book Session, Run, Calm, Laws, Soundness, Procedure, cores.Cores, Ranges; rtgs_laws repeats.Lives;
-// rtgs_money Amounts.
+// To judge it, read these 23 files: rtgs_promises Headline; rtgs_desk Holding, Seen; the ten of a command; rtgs_book
+// Session, Run, Calm, Laws, Soundness, Procedure, cores.Cores, Ranges; rtgs_laws repeats.Lives; rtgs_money Amounts.
 pub fn live_in_memory(
     alloc: Global,
     sessions: &[PlannedSession],

@@ -46,16 +46,16 @@ use std::io::{Read, Write};
 /// the book and the request's bytes, whole or a beginning of it; the commands that were given are those that these
 /// bytes ask for, and the bearer of the key may give them; and the stop that comes then leaves what promise 1 says.
 /// Where the reader fails, nothing was done. So it is with whatever a crash leaves where no desk opens again.
-// To judge it, read these 85 files, 542 definitions: rtgs_promises Headline, Keys; rtgs_desk Holding, Seen,
-// batches.Batches, batches.Sent, Replies, Readings; rtgs_http_server exchange.Serving, exchange.Exchange,
-// exchange.Handling, input.Input, exchange.ReplyMessages; rtgs_rows Content, Keeping, Fitting, Tables, Dues, Rows;
-// rtgs_book Calm, Soundness, cores.Cores, Session, Run, Laws, Ranges, Procedure, Refusals, Standings; rtgs_http_bodies
+// To judge it, read these 87 files: rtgs_promises Headline, Keys; rtgs_desk Holding, Seen, batches.Batches,
+// batches.Sent, Replies, Readings; rtgs_http_server exchange.Serving, exchange.Exchange, exchange.Handling,
+// input.Input, exchange.ReplyMessages; rtgs_rows Content, Keeping, Fitting, Tables, Dues, Rows; rtgs_book Calm,
+// Soundness, cores.Cores, Session, Run, Laws, Ranges, Procedure, Refusals, Standings; rtgs_http_bodies
 // replies.Messages, desks.Written, replies.Kinds, Refusals, Statuses, Answers, replies.Texts, replies.Bodies, Readings,
 // desks.Accounts; rtgs_output Sent; the ten of a command; rtgs_http_requests Exchange, Access, Callers, Meaning, Steps,
-// Bodies, heads.Targets, feeds.Region, heads.Heads, heads.Fields, Faults, heads.Tables, Contents; rtgs_ledger Keys,
-// Kept; rtgs_laws repeats.Lives, repeats.Lasting, repeats.Batch, repeats.Repeats, repeats.Once; rtgs_money Forms,
-// Amounts, Lexical, Digits, Units; rtgs_order_files Results, BatchFaults, OrderFile; rtgs_refusals Table;
-// rtgs_statements Texts, Records, Lines, Sums, Tallies, Columns.
+// Bodies, heads.Targets, feeds.Region, heads.Heads, heads.Fields, Faults, heads.Tables, Contents, OrderBody, Spelling;
+// rtgs_ledger Keys, Kept; rtgs_laws repeats.Lives, repeats.Lasting, repeats.Batch, repeats.Repeats, repeats.Once;
+// rtgs_money Forms, Amounts, Lexical, Digits, Units; rtgs_order_files Results, BatchFaults, OrderFile; rtgs_refusals
+// Table; rtgs_statements Texts, Records, Lines, Sums, Tallies, Columns.
 pub fn serve_and_stop<R: Read, W: Write, S: Alter + Reopen + Drop>(
     alloc: Global,
     desk: Desk<SqlKeeper<S>>,
@@ -89,12 +89,12 @@ pub fn serve_and_stop<R: Read, W: Write, S: Alter + Reopen + Drop>(
 
 /// **Promise 12. A request has one meaning.** What it asks for and its reply are a function of the book and the
 /// request's bytes. Set aside is lack of memory, and for the reply a fault of the store: the status is then 503.
-// To judge it, read these 75 files, 466 definitions: rtgs_desk Seen, Holding, batches.Batches, batches.Sent, Replies,
-// Readings; rtgs_http_bodies replies.Messages, desks.Written, replies.Kinds, Refusals, Statuses, Answers,
-// replies.Texts, replies.Bodies, Readings, desks.Accounts; rtgs_http_server exchange.Exchange, reply_laws.Alike,
-// exchange.Handling, exchange.ReplyMessages; rtgs_http_requests Same, Exchange, Meaning, Callers, Steps, Bodies,
-// heads.Targets, Access, feeds.Region, heads.Heads, heads.Fields, Faults, heads.Tables, Contents; rtgs_ledger Keys,
-// Kept; the ten of a command; rtgs_book Calm, Session, cores.Cores, Run, Soundness, Ranges, Laws, Refusals, Procedure,
+// To judge it, read these 77 files: rtgs_desk Seen, Holding, batches.Batches, batches.Sent, Replies, Readings;
+// rtgs_http_bodies replies.Messages, desks.Written, replies.Kinds, Refusals, Statuses, Answers, replies.Texts,
+// replies.Bodies, Readings, desks.Accounts; rtgs_http_server exchange.Exchange, reply_laws.Alike, exchange.Handling,
+// exchange.ReplyMessages; rtgs_http_requests Same, Exchange, Meaning, Callers, Steps, Bodies, heads.Targets, Access,
+// feeds.Region, heads.Heads, heads.Fields, Faults, heads.Tables, Contents, OrderBody, Spelling; rtgs_ledger Keys, Kept;
+// the ten of a command; rtgs_book Calm, Session, cores.Cores, Run, Soundness, Ranges, Laws, Refusals, Procedure,
 // Standings; rtgs_order_files Results, BatchFaults, OrderFile; rtgs_money Forms, Lexical, Amounts, Digits, Units;
 // rtgs_laws repeats.Lasting, repeats.Batch, repeats.Repeats, repeats.Once; rtgs_refusals Table; rtgs_statements Texts,
 // Records, Lines, Sums, Tallies, Columns.
@@ -115,14 +115,14 @@ pub fn a_book_and_an_input_have_one_reply<K: Keeper>()
 /// **Promise 13. Nobody acts but with his own key.** The commands of a request are those of the operator's key, or
 /// orders and withdrawals of the participant whose key the input carries. Whatever a desk holds, a request changes it
 /// only where it asks for what the bearer of its key may ask.
-// To judge it, read these 76 files, 471 definitions: rtgs_promises Keys; rtgs_desk Seen, batches.Batches, Holding,
-// batches.Sent, Replies, Readings; rtgs_http_bodies replies.Messages, desks.Written, Refusals, replies.Kinds, Statuses,
-// Answers, replies.Texts, replies.Bodies, Readings, desks.Accounts; rtgs_http_server exchange.Exchange,
-// exchange.Handling, exchange.ReplyMessages; rtgs_http_requests Access, Exchange, feeds.Region, heads.Heads,
-// heads.Fields, Callers, Meaning, Steps, Bodies, heads.Targets, Faults, Plans, heads.Tables, Contents; rtgs_ledger
-// Keys, Kept; the ten of a command; rtgs_book Calm, cores.Following, Session, cores.Cores, Refusals, Run, Soundness,
-// Ranges, Laws, Procedure, Standings; rtgs_money Forms, Lexical, Amounts, Digits, Units; rtgs_order_files Results,
-// BatchFaults, OrderFile; rtgs_laws repeats.Lasting, repeats.Batch, repeats.Repeats, repeats.Once; rtgs_refusals Table;
+// To judge it, read these 78 files: rtgs_promises Keys; rtgs_desk Seen, batches.Batches, Holding, batches.Sent,
+// Replies, Readings; rtgs_http_bodies replies.Messages, desks.Written, Refusals, replies.Kinds, Statuses, Answers,
+// replies.Texts, replies.Bodies, Readings, desks.Accounts; rtgs_http_server exchange.Exchange, exchange.Handling,
+// exchange.ReplyMessages; rtgs_http_requests Access, Exchange, feeds.Region, heads.Heads, heads.Fields, Callers,
+// Meaning, Steps, Bodies, heads.Targets, Faults, Plans, heads.Tables, Contents, OrderBody, Spelling; rtgs_ledger Keys,
+// Kept; the ten of a command; rtgs_book Calm, cores.Following, Session, cores.Cores, Refusals, Run, Soundness, Ranges,
+// Laws, Procedure, Standings; rtgs_money Forms, Lexical, Amounts, Digits, Units; rtgs_order_files Results, BatchFaults,
+// OrderFile; rtgs_laws repeats.Lasting, repeats.Batch, repeats.Repeats, repeats.Once; rtgs_refusals Table;
 // rtgs_statements Texts, Records, Lines, Sums, Tallies, Columns.
 pub fn nobody_acts_with_the_key_of_another<K: Keeper>()
     ensures commands { (operator input : List ℕ) (book : Book) (desk : Seen K) (sent : Message)
@@ -135,12 +135,12 @@ pub fn nobody_acts_with_the_key_of_another<K: Keeper>()
 
 /// **Promise 13. And nobody reads the rows of others.** Two books that agree in a participant's own rows give the same
 /// reply to each reading that carries its key. Set aside are replies with the status 503.
-// To judge it, read these 74 files, 467 definitions: rtgs_desk Seen, Holding, batches.Batches, batches.Sent, Replies,
-// Readings; rtgs_http_bodies replies.Messages, desks.Written, replies.Kinds, Refusals, Statuses, Answers,
-// replies.Texts, replies.Bodies, Readings, desks.Accounts; rtgs_http_server reply_laws.Own, exchange.Exchange,
-// exchange.Handling, exchange.ReplyMessages; rtgs_http_requests Exchange, Access, Callers, Meaning, Steps, Bodies,
-// heads.Targets, feeds.Region, heads.Heads, heads.Fields, heads.Tables, Faults, Contents; rtgs_ledger Keys, Kept; the
-// ten of a command; rtgs_money Forms, Lexical, Amounts, Digits, Units; rtgs_order_files Results, OrderFile,
+// To judge it, read these 76 files: rtgs_desk Seen, Holding, batches.Batches, batches.Sent, Replies, Readings;
+// rtgs_http_bodies replies.Messages, desks.Written, replies.Kinds, Refusals, Statuses, Answers, replies.Texts,
+// replies.Bodies, Readings, desks.Accounts; rtgs_http_server reply_laws.Own, exchange.Exchange, exchange.Handling,
+// exchange.ReplyMessages; rtgs_http_requests Exchange, Access, Callers, Meaning, Steps, Bodies, heads.Targets,
+// feeds.Region, heads.Heads, heads.Fields, heads.Tables, Faults, Contents, OrderBody, Spelling; rtgs_ledger Keys, Kept;
+// the ten of a command; rtgs_money Forms, Lexical, Amounts, Digits, Units; rtgs_order_files Results, OrderFile,
 // BatchFaults; rtgs_book Calm, Session, Run, cores.Cores, Laws, Refusals, Soundness, Ranges, Procedure, Standings;
 // rtgs_laws repeats.Lasting, repeats.Batch, repeats.Repeats, repeats.Once; rtgs_refusals Table; rtgs_statements Texts,
 // Records, Lines, Sums, Tallies, Columns.

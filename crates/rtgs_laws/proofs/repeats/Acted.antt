@@ -1,5 +1,5 @@
 -- A command that acted is known, and where it is known it acts no more.
-use Rattle.std.proofs.Common.{◌≡◌, ℕ, ◌+◌, ◌==◌, Bool, true, false, cond, ◌||◌, List, [], ◌∷◌, ◌++◌, map, length}
+use Rattle.std.proofs.Common.{◌≡◌, ℕ, ◌+◌, Bool, true, false, cond, ◌||◌, List, [], ◌∷◌, ◌++◌, map, length}
 use Rattle.std.proofs.Common.{Option, Some, None, Ok, find, is_some, is_none, refl, sym, ap, ◌∙◌, subst, true≢false, ℤ}
 use Rattle.std.proofs.lemmas.Bool.{not-false, and_from, not_from_true}
 use Rattle.std.specs.List.{list_any}
@@ -20,7 +20,7 @@ use Rattle.rtgs_book.specs.declared.answer.Known.TheVariants as known
 use Rattle.rtgs_book.specs.Books.{is_waiting_state, is_withdrawn_state}
 use Rattle.rtgs_book.specs.Commands.{repeated, add, with_participant, is_same_participant, post, is_same_posting}
 use Rattle.rtgs_book.specs.Commands.{known_posting, order, is_same_order, known_order, taken_order, takes}
-use Rattle.rtgs_book.specs.Commands.{is_same_due, takes_due}
+use Rattle.rtgs_book.specs.Commands.{as_sent, says_the_same, is_same_due, takes_due}
 use Rattle.rtgs_book.specs.Commands.{settles_at_once, has_number, withdraw, is_withdrawn_order, number_of, with_state}
 use Rattle.rtgs_book.specs.Lookup.{has_code, codes_of, participant_of, is_participant, is_order_named, order_named}
 use Rattle.rtgs_book.specs.Lookup.{is_posting_named, posting_named}
@@ -151,22 +151,18 @@ same_due_self : (due : Option ℕ) → is_same_due due due ≡ true
 same_due_self None = refl
 same_due_self (Some due) = eq_self due
 
-pub order_same : (o : Order) (new_order : NewOrder) → o.receiver ≡ new_order.receiver
-    → o.amount ≡ new_order.amount → o.due ≡ new_order.due → is_same_order (Some o) new_order ≡ true
-order_same o new_order r a d =
-    and_from _ _ (and_from _ _ ((bytes_decides o.receiver new_order.receiver).1 r)
-    (ap (λ n. o.amount == n) (sym a) ∙ eq_self o.amount))
-    (ap (is_same_due o.due) (sym d) ∙ same_due_self o.due)
+says_itself : (said : NewOrder) → says_the_same said said ≡ true
+says_itself said =
+    and_from _ _ (and_from _ _ (bytes_eq_self said.receiver) (eq_self said.amount)) (same_due_self said.due)
 
 order_known : (book : Book) (sender : List ℕ) (new_order : NewOrder) (o : Order)
     → is_participant book sender ≡ true → order_named book sender new_order.reference ≡ Some o
-    → o.receiver ≡ new_order.receiver → o.amount ≡ new_order.amount → o.due ≡ new_order.due
-    → OwnStep book (PlaceOrder sender new_order)
+    → says_the_same (as_sent o) new_order ≡ true → OwnStep book (PlaceOrder sender new_order)
     (Ok (answer.Repeated (known.Order o.number o.state))) book
 unfolding order
-order_known book sender new_order o has e r a d =
+order_known book sender new_order o has e same =
     sym (second_holds _ _ _ _ _ _ _ (not_from_true _ has) (ap (λ found. is_same_order found new_order) e
-    ∙ order_same o new_order r a d) ∙ (λ i. record { reply = known_order (e i); book = book }))
+    ∙ same) ∙ (λ i. record { reply = known_order (e i); book = book }))
 
 taken_number : (book : Book) (o : Order) → own_number (takes book o).reply ≡ o.number
 unfolding takes
@@ -180,9 +176,8 @@ taken_due_number book o (Some due) = refl
 
 pub ordered_known : (old new : Book) (reply : OwnReply) (sender : List ℕ) (new_order : NewOrder) → IsSound old
     → is_done reply ≡ true → OwnStep old (PlaceOrder sender new_order) reply new
-    → (o : Order) × (order_named new sender new_order.reference ≡ Some o) × (o.receiver ≡ new_order.receiver)
-    × (o.amount ≡ new_order.amount) × (o.number ≡ own_number reply) × (is_participant old sender ≡ true)
-    × (o.due ≡ new_order.due)
+    → (o : Order) × (order_named new sender new_order.reference ≡ Some o)
+    × (says_the_same (as_sent o) new_order ≡ true) × (o.number ≡ own_number reply) × (is_participant old sender ≡ true)
 unfolding order order_named
 ordered_known old new reply sender new_order h accepted s =
     let p = passed_step old new reply _ _ (
@@ -204,11 +199,9 @@ ordered_known old new reply sender new_order h accepted s =
       later.0,
       ap (λ (b : Book). find (is_order_named sender new_order.reference) b.orders) book
           ∙ later.1,
-      later.2.receiver,
-      later.2.amount,
+      ap (λ said. says_the_same said new_order) later.2.said ∙ says_itself new_order,
       later.2.number ∙ sym number,
       not-false _ p.0.0,
-      later.2.due,
     )
 
 -- ---- a withdrawal
@@ -282,13 +275,13 @@ module _ (old mid new : Book) (reply : OwnReply) (h : IsSound old) (accepted : i
         (
           q.0,
           q.1,
-          q.2.number ∙ p.4,
-          ap (λ n. alone (Ok (answer.Repeated (known.Order n q.0.state)))) (q.2.number ∙ p.4),
+          q.2.number ∙ p.3,
+          ap (λ n. alone (Ok (answer.Repeated (known.Order n q.0.state)))) (q.2.number ∙ p.3),
         ),
         quietly new (PlaceOrder sender new_order)
             (Ok (answer.Repeated (known.Order q.0.number q.0.state))) refl
-            (order_known new sender new_order q.0 (still sender p.5) q.1 (q.2.receiver ∙ p.2)
-            (q.2.amount ∙ p.3) (q.2.due ∙ p.6)),
+            (order_known new sender new_order q.0 (still sender p.4) q.1
+            (ap (λ said. says_the_same said new_order) q.2.said ∙ p.2)),
       )
   own_acted (Withdraw sender reference) once s =
       let p = took_back old mid reply sender reference accepted s in

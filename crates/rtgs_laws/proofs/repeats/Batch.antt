@@ -38,7 +38,7 @@ use Rattle.rtgs_book.specs.Step.{OwnStep, Ends, Step, is_followed, may_free}
 use Rattle.rtgs_laws.specs.repeats.Kept.{AreKept}
 use Rattle.rtgs_laws.specs.repeats.Batch.{IsOrderOf, IsNotFull, MayComeAgain}
 use Rattle.rtgs_laws.proofs.NewOrders.{with_due}
-use Rattle.rtgs_laws.proofs.repeats.Acted.{ordered_known, order_same, same_participant, there, not_accepted_order}
+use Rattle.rtgs_laws.proofs.repeats.Acted.{ordered_known, same_participant, there, not_accepted_order}
 use Rattle.rtgs_laws.proofs.repeats.Days.{left_so}
 use Rattle.rtgs_laws.proofs.repeats.Following.{IdleLeavesTheBook, idle, never, not_followed}
 use Rattle.rtgs_laws.proofs.repeats.Kept.{by_settling, kept_through}
@@ -351,8 +351,7 @@ module _ (joins : OrdersMove) (settles : SettlingMoves) (sounds : KeepsSoundness
           let long = ends_long (is_followed command s.0) new s.0 reply s.2 in
           let day : s.0.book.day ≡ old.day = (λ i. (book i).day) ∙ leaves.1 in
           let recorded = recorded_kept s.0.book new command (kept_after sounds old new command reply h s)
-          (ap (λ found. is_same_order found new_order) known.1
-          ∙ order_same known.0 new_order known.2 known.3 known.6) in (
+          (ap (λ found. is_same_order found new_order) known.1 ∙ known.2) in (
             inl (or_second _ _ _ recorded),
             record {
               participants = left.1 ∙ (λ i. (book i).participants) ∙ leaves.0;

@@ -34,9 +34,7 @@ OrdersKept old new = (sender reference : List ℕ) (o : Order) → find (is_orde
 pub itself : (o : Order) → IsKeptOrder o o
 itself o = record {
   number = refl;
-  receiver = refl;
-  amount = refl;
-  due = refl;
+  said = refl;
   state = λ _. refl;
   date = λ _. refl;
   held = λ e. e;
@@ -67,9 +65,7 @@ restated_kept is_in s o not_held waits = by (is_in o) waits
     by : (b : Bool) → (b ≡ true → is_waiting o ≡ true) → IsKeptOrder o (cond b (in_state s o) o)
     by true w = record {
       number = refl;
-      receiver = refl;
-      amount = refl;
-      due = refl;
+      said = refl;
       state = λ e. absurd (true≢false (sym (w refl) ∙ e));
       date = λ _. refl;
       held = λ _. not_held;
@@ -101,9 +97,7 @@ entered_kept date o = by (is_due date o) refl
         let held : is_held o ≡ true = (and_parts (is_held o) _ e).0 in
         record {
           number = refl;
-          receiver = refl;
-          amount = refl;
-          due = refl;
+          said = refl;
           state = λ f. absurd (true≢false (sym (held_waits o.state held) ∙ f));
           date = λ f. absurd (true≢false (sym held ∙ f));
           held = λ _. refl;
@@ -139,9 +133,7 @@ orders_through old mid new h k sender reference o e =
       two.1,
       record {
         number = two.2.number ∙ one.2.number;
-        receiver = two.2.receiver ∙ one.2.receiver;
-        amount = two.2.amount ∙ one.2.amount;
-        due = two.2.due ∙ one.2.due;
+        said = two.2.said ∙ one.2.said;
         state = λ f. two.2.state (waiting_as o one.0 one.2 f) ∙ one.2.state f;
         date = λ f. two.2.date (one.2.held f) ∙ one.2.date f;
         held = λ f. two.2.held (one.2.held f);

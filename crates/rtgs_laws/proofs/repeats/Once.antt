@@ -20,7 +20,7 @@ use Rattle.rtgs_book.specs.Soundness.{IsSound}
 use Rattle.rtgs_book.specs.Step.{OwnStep, Step}
 use Rattle.rtgs_laws.specs.repeats.Kept.{AreKept}
 use Rattle.rtgs_laws.specs.repeats.Once.{once_replies_after}
-use Rattle.rtgs_laws.proofs.repeats.Acted.{posted_known, ordered_known, order_same, posting_same}
+use Rattle.rtgs_laws.proofs.repeats.Acted.{posted_known, ordered_known, posting_same}
 use Rattle.rtgs_laws.proofs.repeats.Acted.{not_accepted_order, not_accepted_posting}
 use Rattle.rtgs_laws.proofs.repeats.Following.{IdleLeavesTheBook, idle, own_accepted}
 use Rattle.rtgs_laws.proofs.repeats.KeptSteps.{step_kept, kept_after}
@@ -66,8 +66,7 @@ recorded_kept old new (PlaceOrder sender new_order) kept e =
     by (Some o) f k =
         let later = kept.orders sender new_order.reference o f in
         ap (λ found. is_same_order found new_order) later.1
-        ∙ (λ i. bytes_eq (later.2.receiver i) new_order.receiver && (later.2.amount i == new_order.amount)
-        && is_same_due (later.2.due i) new_order.due) ∙ k
+        ∙ ap (λ said. says_the_same said new_order) later.2.said ∙ k
 recorded_kept old new (Post code reference cents) kept e = by (posting_named old reference) refl e
   where
     by : (found : Option Posting) → posting_named old reference ≡ found → is_same_posting found code cents ≡ true
@@ -130,7 +129,7 @@ own_accepted_recorded : (old new : Book) (reply : OwnReply) (one : Command) → 
     → OwnStep old one reply new → is_entry one ≡ true → is_recorded new one ≡ true
 own_accepted_recorded old new reply (PlaceOrder sender new_order) h accepted s e =
     let p = ordered_known old new reply sender new_order h accepted s in
-    ap (λ found. is_same_order found new_order) p.1 ∙ order_same p.0 new_order p.2 p.3 p.6
+    ap (λ found. is_same_order found new_order) p.1 ∙ p.2
 own_accepted_recorded old new reply (Post code reference cents) h accepted s e =
     let p = posted_known old new reply code reference cents accepted s in
     ap (λ found. is_same_posting found code cents) p.1 ∙ posting_same p.0 code cents p.2 p.3

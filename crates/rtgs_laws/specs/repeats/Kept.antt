@@ -5,6 +5,7 @@ use Rattle.rtgs_book.specs.declared.participant.Participant.{Participant}
 use Rattle.rtgs_book.specs.declared.posting.Posting.{Posting}
 use Rattle.rtgs_book.specs.declared.order.Order.{Order}
 use Rattle.rtgs_book.specs.Books.{is_held, is_waiting}
+use Rattle.rtgs_book.specs.Commands.{as_sent}
 use Rattle.rtgs_book.specs.Lookup.{participant_of, posting_named, order_named}
 
 -- the same participant, perhaps with another credit limit
@@ -16,9 +17,7 @@ pub record IsKeptParticipant (old new : Participant) : Type 0 where
 -- held, and what is not held is never held again
 pub record IsKeptOrder (old new : Order) : Type 0 where
   pub number : new.number ≡ old.number
-  pub receiver : new.receiver ≡ old.receiver
-  pub amount : new.amount ≡ old.amount
-  pub due : new.due ≡ old.due
+  pub said : as_sent new ≡ as_sent old
   pub state : is_waiting old ≡ false → new.state ≡ old.state
   pub date : is_held old ≡ false → new.date ≡ old.date
   pub held : is_held old ≡ false → is_held new ≡ false

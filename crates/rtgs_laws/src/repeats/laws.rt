@@ -36,8 +36,8 @@ use rtgs_book::laws::{
 };
 
 /// Whatever comes, a code, a posting's reference and an order's name mean what they meant: the
-/// participant with its name and key, the posting, and the order with its number, receiver, amount
-/// and due date. Only a queued or held order changes its state, and only a held one its date.
+/// participant with its name and key, the posting, and the order with its number and all that it said when it was
+/// sent. Only a queued or held order changes its state, and only a held one its date.
 pub fn records_are_kept()
     ensures { (old new : Book) (commands : List Command) (replies : List Reply) → IsSound old
         → Run old commands replies new → AreKept old new }
