@@ -8,7 +8,6 @@ pub mod laws;
 mod limits;
 mod order_file;
 mod order_row;
-mod record_fields;
 mod results;
 
 pub use crate::batch_fault::BatchFault;

@@ -4,8 +4,7 @@ ghost use Rattle.csv.specs.Records.{fields_of};
 ghost use Rattle.rtgs_book.specs.declared.new_order.NewOrder.{NewOrder};
 ghost use Rattle.rtgs_order_files.specs.OrderFile.{IsRow, fields_of_row};
 
-use crate::columns::Columns;
-use crate::record_fields::split;
+use crate::columns::{Columns, split};
 use csv::ByteRecord;
 use rtgs_book::NewOrder;
 use rtgs_money::{Amount, Code, Reference};
