@@ -1,14 +1,13 @@
 -- What a participant asks for is its own.
-use Rattle.std.proofs.Common.{◌≡◌, ◌⊎◌, inl, inr, ℕ, List, Bool, true, false, Option, Some, None}
+use Rattle.std.proofs.Common.{◌≡◌, inl, inr, ℕ, List, Bool, true, false, Option, Some, None}
 use Rattle.std.proofs.Common.{Result, Ok, Err, refl, sym, subst}
 use Rattle.std.specs.Str.{bytes_eq}
 use Rattle.std.proofs.lemmas.Slice.Eq.{bytes_eq-Decides}
 use Rattle.httparse.specs.Grammar.{RequestHead}
 use Rattle.serde_json.specs.Data.{Data}
 use Rattle.rtgs_book.specs.declared.command.Command.TheVariants as command
+use Rattle.rtgs_book.specs.declared.new_order.NewOrder.{NewOrder}
 use Rattle.rtgs_book.specs.declared.reading.Reading.TheVariants as reading
-use Rattle.rtgs_money.specs.Amounts.{IsAmount}
-use Rattle.rtgs_money.specs.Forms.{IsCode, IsReference, is_code, is_reference}
 use Rattle.rtgs_http_requests.specs.heads.Fields.{HasKey}
 use Rattle.rtgs_http_requests.specs.heads.Heads.{fields_of}
 use Rattle.rtgs_http_requests.specs.heads.Targets.{is_post}
@@ -21,17 +20,17 @@ use Rattle.rtgs_http_requests.specs.declared.heads.route.Route.{Route}
 use Rattle.rtgs_http_requests.specs.declared.heads.route.Route.TheVariants.{Bank, Operator}
 use Rattle.rtgs_http_requests.specs.Bodies.{ReadsJson, body_length}
 use Rattle.rtgs_http_requests.specs.Callers.{Caller, CodeOf, caller_under, known}
-use Rattle.rtgs_http_requests.specs.Contents.{FindsContent, OrderValues, HasOrder, HasNothing}
+use Rattle.rtgs_http_requests.specs.Contents.{FindsContent, HasNothing}
 use Rattle.rtgs_http_requests.specs.Exchange.{AsksFor, HasRegion, HasHead, HasRoute, HasCaller, HasBody}
-use Rattle.rtgs_http_requests.specs.Meaning.{Answer, AsksPlainly, AsksBatch, Means, MeansBank, SpellsDate}
-use Rattle.rtgs_http_requests.specs.Meaning.{SpellsDue, SpellsOrder, SpellsReference, said_by}
+use Rattle.rtgs_http_requests.specs.Meaning.{Answer, AsksPlainly, AsksBatch, Means, MeansBank, SubmitsOrder}
+use Rattle.rtgs_http_requests.specs.OrderBody.{OrderValues, HasOrder, SpellsOrder}
+use Rattle.rtgs_http_requests.specs.Spelling.{SpellsReference, SpellsDate}
 use Rattle.rtgs_http_requests.specs.Steps.{Then, Goes}
 use Rattle.rtgs_http_requests.specs.declared.admitted.Admitted.TheVariants as admitted
 use Rattle.rtgs_http_requests.specs.declared.asked.Asked.{Asked}
 use Rattle.rtgs_http_requests.specs.declared.asked.Asked.TheVariants.{Submit, Batch, Read}
 use Rattle.rtgs_http_requests.specs.declared.http_fault.HttpFault.{HttpFault}
 use Rattle.rtgs_http_requests.specs.Access.{CarriesKey, IsOwn, MayAsk}
-use Rattle.rtgs_http_requests.proofs.Decisions.{truth, amount}
 use Rattle.rtgs_http_requests.proofs.Stages.{after_size, after_caller, after_route, after_head, after_region}
 
 -- where the steps gave a value, the first gave one
@@ -53,19 +52,12 @@ same_own code asked other e own =
     let P : Asked → Type 0 = λ a. IsOwn code a in
     subst P (sym same) own
 
-order_own : (caller : List ℕ) (values : OrderValues) (asked : Asked) → SpellsOrder caller values (Ok asked)
+order_own : (caller : List ℕ) (values : OrderValues) (asked : Asked) → SubmitsOrder caller values (Ok asked)
     → IsOwn caller asked
-order_own caller values asked x = by (truth (is_reference values.0)) (truth (is_code values.1)) (amount values.2)
-  where
-    by : IsReference values.0 ⊎ (¬ IsReference values.0) → IsCode values.1 ⊎ (¬ IsCode values.1)
-        → IsAmount values.2 ⊎ (¬ IsAmount values.2) → IsOwn caller asked
-    by (inl r) (inl t) (inl a) =
-        let order : Option ℕ → Asked = λ due. Submit (command.Order caller (said_by values due)) in
-        let d = value_of (SpellsDue values.3) (λ due (answer : Answer). answer ≡ Ok (order due)) asked (x.due r t a) in
-        same_own caller asked (order d.0) d.2 refl
-    by (inl r) (inl t) (inr a) = let e = x.bad_amount r t a in let no : ⊥ = cc e in absurd no
-    by (inl r) (inr t) _ = let e = x.bad_code r t in let no : ⊥ = cc e in absurd no
-    by (inr r) _ _ = let e = x.bad_reference r in let no : ⊥ = cc e in absurd no
+order_own caller values asked x =
+    let order : NewOrder → Asked = λ order. Submit (command.Order caller order) in
+    let d = value_of (SpellsOrder values) (λ given (answer : Answer). answer ≡ Ok (order given)) asked x in
+    same_own caller asked (order d.0) d.2 refl
 
 batch_own : (caller body : List ℕ) (asked : Asked) → AsksBatch caller body (Ok asked) → IsOwn caller asked
 batch_own caller body (Submit command) x = absurd x
@@ -79,10 +71,8 @@ without_fields asked value = Then (FindsContent (λ (_ : Unit {0}) given. HasNot
 bank_own : (route : BankRoute) (caller parameter body : List ℕ) (asked : Asked)
     → MeansBank route caller parameter body (Ok asked) → IsOwn caller asked
 bank_own SendOrder caller parameter body asked x =
-    let v = value_of (ReadsJson body) (λ value. Then (FindsContent HasOrder value) (λ values. SpellsOrder caller
-    values)) asked
-    x in
-    let w = value_of (FindsContent HasOrder v.0) (λ values. SpellsOrder caller values) asked v.2 in
+    let v = value_of (ReadsJson body) (λ value. Then (FindsContent HasOrder value) (SubmitsOrder caller)) asked x in
+    let w = value_of (FindsContent HasOrder v.0) (SubmitsOrder caller) asked v.2 in
     order_own caller w.0 asked w.2
 bank_own WithdrawOrder caller parameter body asked x =
     let r = value_of (SpellsReference parameter) (λ reference. AsksPlainly body

@@ -1,25 +1,18 @@
--- A body has one content, and one meaning.
-use Rattle.std.proofs.Common.{◌≡◌, ◌⊎◌, inl, inr, ℕ, ℤ, Bool, List, Option, Some, None, Result, Ok, Err, refl, sym, ap}
+-- A body that is no order has one content, and one meaning.
+use Rattle.std.proofs.Common.{◌≡◌, ◌⊎◌, inl, inr, ℕ, ℤ, Bool, List, Some, Result, Ok, Err, refl, sym, ap}
 use Rattle.std.proofs.Common.{◌∙◌, IsUtf8}
 use Rattle.serde_json.specs.Data.{Data}
 use Rattle.serde_json.specs.Find.{as_integer}
 use Rattle.serde_json.specs.Read.{read}
-use Rattle.rtgs_money.specs.Amounts.{IsAmount, IsPostingAmount, IsCredit}
-use Rattle.rtgs_money.specs.Date.{IsBusinessDate, date_text}
+use Rattle.rtgs_money.specs.Amounts.{IsPostingAmount, IsCredit}
 use Rattle.rtgs_money.specs.Forms.{IsCode, IsReference, is_code, is_reference}
-use Rattle.rtgs_money.specs.declared.lexical.Lexical.TheVariants.{BadDate}
-use Rattle.rtgs_book.specs.declared.command.Command.TheVariants as command
 use Rattle.rtgs_http_requests.specs.Bodies.{ReadsJson}
-use Rattle.rtgs_http_requests.specs.Contents.{FindsContent, OrderValues, HasOrder, HasPosting, HasCredit, HasDate}
-use Rattle.rtgs_http_requests.specs.Contents.{HasOpening, HasNothing}
-use Rattle.rtgs_http_requests.specs.Meaning.{Answer, SpellsReference, SpellsDate, SpellsDue, SpellsOrder}
-use Rattle.rtgs_http_requests.specs.Meaning.{IsPostingOf, SpellsCredit, said_by}
-use Rattle.rtgs_http_requests.specs.declared.asked.Asked.TheVariants.{Submit}
+use Rattle.rtgs_http_requests.specs.Contents.{FindsContent, HasPosting, HasCredit, HasDate, HasOpening, HasNothing}
+use Rattle.rtgs_http_requests.specs.Meaning.{IsPostingOf, SpellsCredit}
 use Rattle.rtgs_http_requests.specs.declared.http_fault.HttpFault.{HttpFault}
 use Rattle.rtgs_http_requests.specs.declared.http_fault.HttpFault.TheVariants as fault
-use Rattle.rtgs_http_requests.proofs.Agreement.{IsDetermined, Tells, once_outcome, equal_outcome, then_determined}
-use Rattle.rtgs_http_requests.proofs.Decisions.{truth, amount, credit, posting}
-use Rattle.rtgs_http_requests.proofs.Lower.{LowerLaws}
+use Rattle.rtgs_http_requests.proofs.Agreement.{IsDetermined, Tells, once_outcome, equal_outcome}
+use Rattle.rtgs_http_requests.proofs.Decisions.{truth, credit, posting}
 
 -- ---- the value of JSON
 
@@ -66,28 +59,11 @@ same_three {A} {B} {C} one other p q r =
     let third : C → A × B × C = λ c. (other.0, other.1, c) in
     ap first p ∙ ap second q ∙ ap third r
 
-same_four : {A B C D : Type 0} (one other : A × B × C × D) → one.0 ≡ other.0 → one.1 ≡ other.1 → one.2 ≡ other.2
-    → one.3 ≡ other.3 → one ≡ other
-same_four {A} {B} {C} {D} one other p q r s =
-    let first : A → A × B × C × D = λ a. (a, one.1, one.2, one.3) in
-    let second : B → A × B × C × D = λ b. (other.0, b, one.2, one.3) in
-    let third : C → A × B × C × D = λ c. (other.0, other.1, c, one.3) in
-    let fourth : D → A × B × C × D = λ d. (other.0, other.1, other.2, d) in
-    ap first p ∙ ap second q ∙ ap third r ∙ ap fourth s
-
 pub same_two : {A B : Type 0} (one other : A × B) → one.0 ≡ other.0 → one.1 ≡ other.1 → one ≡ other
 same_two {A} {B} one other p q =
     let first : A → A × B = λ a. (a, one.1) in
     let second : B → A × B = λ b. (other.0, b) in
     ap first p ∙ ap second q
-
-pub one_order : (value : Data) (one other : OrderValues) → HasOrder one value → HasOrder other value → one ≡ other
-one_order value (reference, to, amount, None) (also, into, cents, None) x y =
-    same_four _ _ (cc (x, y)) (cc (x, y)) (cc (x, y)) refl
-one_order value (reference, to, amount, None) (also, into, cents, Some other) x y = let no : ⊥ = cc (x, y) in absurd no
-one_order value (reference, to, amount, Some due) (also, into, cents, None) x y = let no : ⊥ = cc (x, y) in absurd no
-one_order value (reference, to, amount, Some due) (also, into, cents, Some other) x y =
-    same_four _ _ (cc (x, y)) (cc (x, y)) (cc (x, y)) (cc (x, y))
 
 pub one_posting : (value : Data) (one other : List ℕ × List ℕ × ℤ) → HasPosting one value → HasPosting other value
     → one ≡ other
@@ -119,54 +95,6 @@ pub one_nothing : (value : Data) (one other : Unit {0}) → HasNothing value →
 one_nothing value one other x y = refl
 
 -- ---- what values spell
-
-pub reference_once : (text : List ℕ) → IsDetermined (SpellsReference text)
-reference_once text one other x y = by (truth (is_reference text))
-  where
-    by : IsReference text ⊎ (¬ IsReference text) → (one ≡ Err fault.OutOfMemory)
-        ⊎ ((other ≡ Err fault.OutOfMemory) ⊎ (one ≡ other))
-    by (inl good) = equal_outcome _ one other (x.found good) (y.found good)
-    by (inr bad) = equal_outcome _ one other (x.refused bad) (y.refused bad)
-
-abbrev IsDateOf : List ℕ → ℕ → Type 0
-IsDateOf text date = IsBusinessDate date × (text ≡ date_text date)
-
-tells_date : (text : List ℕ) (outcome : Result ℕ HttpFault) → SpellsDate text outcome
-    → Tells (IsDateOf text) (fault.Form BadDate) outcome
-tells_date text (Ok date) x = inl (date, refl, x)
-tells_date text (Err (fault.Form BadDate)) none = inr (inl (refl, λ date has. none date has.0 has.1))
-tells_date text (Err _) x = absurd x
-
-pub date_once : LowerLaws → (text : List ℕ) → IsDetermined (SpellsDate text)
-date_once laws text one other x y =
-    once_outcome (IsDateOf text) (fault.Form BadDate) (λ a b p q. laws.dates a b p.0 q.0 (sym p.1 ∙ q.1)) one other
-    (tells_date text one x) (tells_date text other y)
-
--- the answer is this one, whatever the outcome of the step before
-pub equal_once : {A B : Type 0} (answer : A → Result B HttpFault) (value : A)
-    → IsDetermined (λ (outcome : Result B HttpFault). outcome ≡ answer value)
-equal_once answer value one other x y = equal_outcome (answer value) one other x y
-
-due_once : LowerLaws → (text : Option (List ℕ)) → IsDetermined (SpellsDue text)
-due_once laws None one other x y = equal_outcome _ one other x y
-due_once laws (Some text) one other x y =
-    then_determined (SpellsDate text) (λ date (outcome : Result (Option ℕ) HttpFault). outcome ≡ Ok (Some date))
-    (date_once laws text) (equal_once (λ date. Ok (Some date))) one other x y
-
-pub order_once : LowerLaws → (caller : List ℕ) (values : OrderValues) → IsDetermined (SpellsOrder caller values)
-order_once laws caller values one other x y =
-    by (truth (is_reference values.0)) (truth (is_code values.1)) (amount values.2)
-  where
-    by : IsReference values.0 ⊎ (¬ IsReference values.0) → IsCode values.1 ⊎ (¬ IsCode values.1)
-        → IsAmount values.2 ⊎ (¬ IsAmount values.2) → (one ≡ Err fault.OutOfMemory)
-        ⊎ ((other ≡ Err fault.OutOfMemory) ⊎ (one ≡ other))
-    by (inl r) (inl t) (inl a) =
-        let answer : Option ℕ → Answer = λ due. Ok (Submit (command.Order caller (said_by values due))) in
-        then_determined (SpellsDue values.3) (λ due (outcome : Answer). outcome ≡ answer due) (due_once laws values.3)
-        (equal_once answer) one other (x.due r t a) (y.due r t a)
-    by (inl r) (inl t) (inr a) = equal_outcome _ one other (x.bad_amount r t a) (y.bad_amount r t a)
-    by (inl r) (inr t) _ = equal_outcome _ one other (x.bad_code r t) (y.bad_code r t)
-    by (inr r) _ _ = equal_outcome _ one other (x.bad_reference r) (y.bad_reference r)
 
 pub posting_once : (values : List ℕ × List ℕ × ℤ) → IsDetermined (IsPostingOf values)
 posting_once values one other x y = by (truth (is_code values.0)) (truth (is_reference values.1)) (posting values.2)

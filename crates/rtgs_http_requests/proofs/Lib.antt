@@ -9,6 +9,8 @@ mod FilesAnswered
 mod Lower
 mod MeaningAnswered
 mod MeaningOnce
+mod OrderBody
+mod Spelt
 mod Stages
 mod StepsAnswered
 mod StepsOnce

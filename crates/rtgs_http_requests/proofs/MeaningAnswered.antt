@@ -3,11 +3,11 @@ use Rattle.std.proofs.Common.{◌≡◌, ◌⊎◌, inl, inr, ℕ, ℤ, Bool, Li
 use Rattle.std.proofs.Common.{Global}
 use Rattle.serde_json.specs.Data.{Data}
 use Rattle.serde_json.specs.Read.{read}
-use Rattle.rtgs_money.specs.Amounts.{IsAmount, IsPostingAmount, IsCredit}
-use Rattle.rtgs_money.specs.Date.{IsBusinessDate, date_text}
+use Rattle.rtgs_money.specs.Amounts.{IsPostingAmount, IsCredit}
 use Rattle.rtgs_money.specs.Forms.{IsCode, IsReference, is_code, is_reference}
-use Rattle.rtgs_money.specs.declared.lexical.Lexical.TheVariants.{BadCode, BadReference, BadAmount, BadDate}
+use Rattle.rtgs_money.specs.declared.lexical.Lexical.TheVariants.{BadCode, BadReference, BadAmount}
 use Rattle.rtgs_book.specs.declared.command.Command.TheVariants as command
+use Rattle.rtgs_book.specs.declared.new_order.NewOrder.{NewOrder}
 use Rattle.rtgs_http_requests.specs.declared.heads.bank_route.BankRoute.{BankRoute}
 use Rattle.rtgs_http_requests.specs.declared.heads.bank_route.BankRoute.TheVariants.{SendOrder, WithdrawOrder}
 use Rattle.rtgs_http_requests.specs.declared.heads.bank_route.BankRoute.TheVariants.{SendBatch}
@@ -21,11 +21,11 @@ use Rattle.rtgs_http_requests.specs.declared.heads.operator_route.OperatorRoute.
 use Rattle.rtgs_http_requests.specs.declared.heads.operator_route.OperatorRoute.TheVariants.{ReadAccounts}
 use Rattle.rtgs_http_requests.specs.Bodies.{ReadsJson}
 use Rattle.rtgs_http_requests.specs.Callers.{Caller}
-use Rattle.rtgs_http_requests.specs.Contents.{FindsContent, OrderValues, HasOrder, HasPosting, HasCredit, HasDate}
-use Rattle.rtgs_http_requests.specs.Contents.{HasOpening, HasNothing}
-use Rattle.rtgs_http_requests.specs.Meaning.{AsksDay, AsksPlainly, Means, MeansBank, MeansOperator, SpellsReference}
-use Rattle.rtgs_http_requests.specs.Meaning.{Answer, SpellsDate, SpellsDue, SpellsOrder, IsPostingOf, SpellsCredit}
-use Rattle.rtgs_http_requests.specs.Meaning.{SpellsOpening, said_by}
+use Rattle.rtgs_http_requests.specs.Contents.{FindsContent, HasPosting, HasCredit, HasDate, HasOpening, HasNothing}
+use Rattle.rtgs_http_requests.specs.Meaning.{Answer, AsksDay, AsksPlainly, Means, MeansBank, MeansOperator}
+use Rattle.rtgs_http_requests.specs.Meaning.{SubmitsOrder, IsPostingOf, SpellsCredit, SpellsOpening}
+use Rattle.rtgs_http_requests.specs.OrderBody.{OrderValues, HasOrder, SpellsOrder}
+use Rattle.rtgs_http_requests.specs.Spelling.{SpellsReference, SpellsDate}
 use Rattle.rtgs_http_requests.specs.Steps.{Then, HasAnswer}
 use Rattle.rtgs_http_requests.specs.declared.admitted.Admitted.TheVariants as admitted
 use Rattle.rtgs_http_requests.specs.declared.asked.Asked.{Asked}
@@ -34,8 +34,10 @@ use Rattle.rtgs_http_requests.specs.declared.http_fault.HttpFault.{HttpFault}
 use Rattle.rtgs_http_requests.specs.declared.http_fault.HttpFault.TheVariants as fault
 use Rattle.rtgs_book.specs.declared.reading.Reading.TheVariants as reading
 use Rattle.rtgs_http_requests.proofs.Answered.{then_answered, outcome_answered, value_answered}
-use Rattle.rtgs_http_requests.proofs.Decisions.{truth, amount, credit, posting}
+use Rattle.rtgs_http_requests.proofs.Decisions.{truth, credit, posting}
 use Rattle.rtgs_http_requests.proofs.FilesAnswered.{file_answered}
+use Rattle.rtgs_http_requests.proofs.OrderBody.{order_answered}
+use Rattle.rtgs_http_requests.proofs.Spelt.{reference_answered, date_answered}
 
 -- ---- values of bodies
 
@@ -67,67 +69,6 @@ spelt_answered Has next body go =
     then_answered (FindsContent Has value) next (content_answered Has value) go)
 
 -- ---- what values spell
-
-reference_answered : (text : List ℕ) → HasAnswer (SpellsReference text)
-reference_answered text none = by (truth (is_reference text))
-  where
-    by : ¬ (IsReference text ⊎ (¬ IsReference text))
-    by (inl good) = let clash = none (Ok text) (record { found = λ _. refl; refused = λ bad. absurd (bad good) }) in cc
-    by (inr bad) = let clash = none (Err (fault.Form BadReference))
-        (record { found = λ good. absurd (bad good); refused = λ _. refl }) in cc
-
-abbrev IsDateOf : List ℕ → ℕ → Type 0
-IsDateOf text date = IsBusinessDate date × (text ≡ date_text date)
-
-date_answered : (text : List ℕ) → HasAnswer (SpellsDate text)
-date_answered text =
-    outcome_answered (IsDateOf text) (fault.Form BadDate) (SpellsDate text) (λ e. cc) (λ date has. has)
-    (λ none date is e. none date (is, e))
-
-due_answered : (text : Option (List ℕ)) → HasAnswer (SpellsDue text)
-due_answered None = value_answered None
-due_answered (Some text) =
-    then_answered (SpellsDate text) (λ date (outcome : Result (Option ℕ) HttpFault). outcome ≡ Ok (Some date))
-    (date_answered text) (λ date. value_answered (Some date))
-
-order_answered : (caller : List ℕ) (values : OrderValues) → HasAnswer (SpellsOrder caller values)
-order_answered caller values none = by (truth (is_reference values.0)) (truth (is_code values.1)) (amount values.2)
-  where
-    by : IsReference values.0 ⊎ (¬ IsReference values.0) → IsCode values.1 ⊎ (¬ IsCode values.1)
-        → IsAmount values.2 ⊎ (¬ IsAmount values.2) → ⊥
-    by (inl r) (inl t) (inl a) =
-        let order : Option ℕ → Asked = λ due. Submit (command.Order caller (said_by values due)) in
-        then_answered (SpellsDue values.3) (λ due (outcome : Answer). outcome ≡ Ok (order due)) (due_answered values.3)
-        (λ due. value_answered (order due)) (λ answer is. none answer (record {
-          due = λ _ _ _. is;
-          bad_reference = λ x. absurd (x r);
-          bad_code = λ _ x. absurd (x t);
-          bad_amount = λ _ _ x. absurd (x a);
-        }))
-    by (inl r) (inl t) (inr a) =
-        let clash = none (Err (fault.Form BadAmount)) (record {
-          due = λ _ _ x. absurd (a x);
-          bad_reference = λ x. absurd (x r);
-          bad_code = λ _ x. absurd (x t);
-          bad_amount = λ _ _ _. refl;
-        }) in
-        cc
-    by (inl r) (inr t) _ =
-        let clash = none (Err (fault.Form BadCode)) (record {
-          due = λ _ x _. absurd (t x);
-          bad_reference = λ x. absurd (x r);
-          bad_code = λ _ _. refl;
-          bad_amount = λ _ x _. absurd (t x);
-        }) in
-        cc
-    by (inr r) _ _ =
-        let clash = none (Err (fault.Form BadReference)) (record {
-          due = λ x _ _. absurd (r x);
-          bad_reference = λ _. refl;
-          bad_code = λ x _. absurd (r x);
-          bad_amount = λ x _ _. absurd (r x);
-        }) in
-        cc
 
 posting_answered : (values : List ℕ × List ℕ × ℤ) → HasAnswer (IsPostingOf values)
 posting_answered values none = by (truth (is_code values.0)) (truth (is_reference values.1)) (posting values.2)
@@ -232,10 +173,16 @@ withdrawal_answered caller parameter body =
     (Submit (command.Withdraw caller reference))) (reference_answered parameter)
     (λ reference. plainly_answered body (Submit (command.Withdraw caller reference)))
 
+submitted_answered : (caller : List ℕ) (values : OrderValues) → HasAnswer (SubmitsOrder caller values)
+submitted_answered caller values =
+    let asked : NewOrder → Asked = λ order. Submit (command.Order caller order) in
+    then_answered (SpellsOrder values) (λ order (answer : Answer). answer ≡ Ok (asked order)) (order_answered values)
+    (λ order. value_answered (asked order))
+
 bank_answered : Global → (route : BankRoute) (caller parameter body : List ℕ)
     → HasAnswer (MeansBank route caller parameter body)
-bank_answered alloc SendOrder caller parameter body = spelt_answered HasOrder (λ values. SpellsOrder caller values) body
-    (order_answered caller)
+bank_answered alloc SendOrder caller parameter body = spelt_answered HasOrder (λ values. SubmitsOrder caller values)
+    body (submitted_answered caller)
 bank_answered alloc WithdrawOrder caller parameter body = withdrawal_answered caller parameter body
 bank_answered alloc SendBatch caller parameter body = file_answered alloc caller body
 bank_answered alloc ReadOrder caller parameter body = referred_answered parameter

@@ -2,6 +2,7 @@
 use Rattle.std.proofs.Common.{◌≡◌, inl, inr, ℕ, Bool, List, Result, Ok, Err, refl, sym, ap, subst, ◌∙◌}
 use Rattle.serde_json.specs.Data.{Data}
 use Rattle.rtgs_book.specs.declared.command.Command.TheVariants as command
+use Rattle.rtgs_book.specs.declared.new_order.NewOrder.{NewOrder}
 use Rattle.rtgs_http_requests.specs.declared.heads.bank_route.BankRoute.{BankRoute}
 use Rattle.rtgs_http_requests.specs.declared.heads.bank_route.BankRoute.TheVariants.{SendOrder, WithdrawOrder}
 use Rattle.rtgs_http_requests.specs.declared.heads.bank_route.BankRoute.TheVariants.{SendBatch}
@@ -15,12 +16,12 @@ use Rattle.rtgs_http_requests.specs.declared.heads.operator_route.OperatorRoute.
 use Rattle.rtgs_http_requests.specs.declared.heads.operator_route.OperatorRoute.TheVariants.{ReadAccounts}
 use Rattle.rtgs_http_requests.specs.Bodies.{ReadsJson}
 use Rattle.rtgs_http_requests.specs.Callers.{Caller}
-use Rattle.rtgs_http_requests.specs.Contents.{FindsContent, HasOrder, HasPosting, HasCredit, HasDate, HasOpening}
-use Rattle.rtgs_http_requests.specs.Contents.{HasNothing}
+use Rattle.rtgs_http_requests.specs.Contents.{FindsContent, HasPosting, HasCredit, HasDate, HasOpening, HasNothing}
 use Rattle.rtgs_http_requests.specs.Meaning.{Answer, AsksBatch, AsksDay, AsksPlainly, Means, MeansBank, MeansOperator}
-use Rattle.rtgs_http_requests.specs.Meaning.{SpellsReference, SpellsDate, SpellsOrder, IsPostingOf, SpellsCredit}
-use Rattle.rtgs_http_requests.specs.Meaning.{SpellsOpening}
+use Rattle.rtgs_http_requests.specs.Meaning.{SubmitsOrder, IsPostingOf, SpellsCredit, SpellsOpening}
+use Rattle.rtgs_http_requests.specs.OrderBody.{OrderValues, HasOrder, SpellsOrder}
 use Rattle.rtgs_http_requests.specs.Same.{AreTheSame}
+use Rattle.rtgs_http_requests.specs.Spelling.{SpellsReference, SpellsDate}
 use Rattle.rtgs_http_requests.specs.Steps.{Then}
 use Rattle.rtgs_http_requests.specs.declared.admitted.Admitted.TheVariants as admitted
 use Rattle.rtgs_http_requests.specs.declared.asked.Asked.{Asked}
@@ -29,10 +30,11 @@ use Rattle.rtgs_http_requests.specs.declared.http_fault.HttpFault.{HttpFault}
 use Rattle.rtgs_http_requests.specs.declared.http_fault.HttpFault.TheVariants as fault
 use Rattle.rtgs_book.specs.declared.reading.Reading.TheVariants as reading
 use Rattle.rtgs_http_requests.proofs.Agreement.{Agree, Equal, IsDetermined, then_determined, equal_outcome}
-use Rattle.rtgs_http_requests.proofs.ContentsOnce.{json_once, content_once, one_order, one_posting, one_credit}
-use Rattle.rtgs_http_requests.proofs.ContentsOnce.{one_date, one_opening, one_nothing, reference_once, date_once}
-use Rattle.rtgs_http_requests.proofs.ContentsOnce.{order_once, posting_once, credit_once, equal_once}
+use Rattle.rtgs_http_requests.proofs.ContentsOnce.{json_once, content_once, one_posting, one_credit, one_date}
+use Rattle.rtgs_http_requests.proofs.ContentsOnce.{one_opening, one_nothing, posting_once, credit_once}
 use Rattle.rtgs_http_requests.proofs.Lower.{LowerLaws}
+use Rattle.rtgs_http_requests.proofs.OrderBody.{one_order, order_once}
+use Rattle.rtgs_http_requests.proofs.Spelt.{reference_once, date_once, equal_once}
 
 same_as_itself : (answer : Answer) → AreTheSame answer answer
 same_as_itself (Ok (Submit submitted)) = refl
@@ -90,6 +92,12 @@ withdrawal_once caller parameter body =
     (Submit (command.Withdraw caller reference))) (reference_once parameter)
     (λ reference. plainly_once body (Submit (command.Withdraw caller reference)))
 
+submitted_once : LowerLaws → (caller : List ℕ) (values : OrderValues) → IsDetermined (SubmitsOrder caller values)
+submitted_once laws caller values =
+    let answer : NewOrder → Answer = λ order. Ok (Submit (command.Order caller order)) in
+    then_determined (SpellsOrder values) (λ order (outcome : Answer). outcome ≡ answer order) (order_once laws values)
+    (equal_once answer)
+
 batch_once : LowerLaws → (caller body : List ℕ) (one other : Answer) → AsksBatch caller body one
     → AsksBatch caller body other → Agree AreTheSame one other
 batch_once laws caller body (Ok (Batch sender rows)) (Ok (Batch also more)) x y =
@@ -117,8 +125,8 @@ bank_once : LowerLaws → (route : BankRoute) (caller parameter body : List ℕ)
     → MeansBank route caller parameter body one → MeansBank route caller parameter body other
     → Agree AreTheSame one other
 bank_once laws SendOrder caller parameter body one other x y =
-    the_same one other (spelt_once HasOrder (λ values. SpellsOrder caller values) body one_order
-    (order_once laws caller) one other x y)
+    the_same one other (spelt_once HasOrder (λ values. SubmitsOrder caller values) body one_order
+    (submitted_once laws caller) one other x y)
 bank_once laws WithdrawOrder caller parameter body one other x y =
     the_same one other (withdrawal_once caller parameter body one other x y)
 bank_once laws SendBatch caller parameter body one other x y = batch_once laws caller body one other x y

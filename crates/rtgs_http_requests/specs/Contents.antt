@@ -1,23 +1,9 @@
--- The values that bodies are to have: objects with exactly these keys.
-use Rattle.std.specs.Prelude.{◌≡◌, ◌⊎◌, ℕ, ℤ, Bool, false, List, codes, Option, None, Some, Result, Ok, Err}
-use Rattle.serde_json.specs.Data.{Data, Num, unsigned, boolean, number, string, object, Members, member, no_members}
+-- The values that bodies other than an order's are to have: objects with exactly these keys.
+use Rattle.std.specs.Prelude.{◌≡◌, ◌⊎◌, ℕ, ℤ, Bool, false, List, codes, Some, Result, Ok, Err}
+use Rattle.serde_json.specs.Data.{Data, Num, unsigned, boolean, number, string, object, member, no_members}
 use Rattle.serde_json.specs.Find.{as_integer}
 use Rattle.rtgs_http_requests.specs.declared.http_fault.HttpFault.{HttpFault}
 use Rattle.rtgs_http_requests.specs.declared.http_fault.HttpFault.TheVariants.{WrongFields}
-
--- a member with a text, where there is one, before others
-abbrev pub perhaps_text : List ℕ → Option (List ℕ) → Members → Members
-perhaps_text key None members = members
-perhaps_text key (Some text) members = member key (string text) members
-
--- a reference, a receiver, an amount that is not negative, and perhaps a due date
-abbrev pub OrderValues : Type 0
-OrderValues = List ℕ × List ℕ × ℕ × Option (List ℕ)
-
-abbrev pub HasOrder : OrderValues → Data → Type 0
-HasOrder (reference, to, amount, due) value =
-    value ≡ object (member (codes "amount") (number (unsigned amount)) (perhaps_text (codes "due") due
-    (member (codes "reference") (string reference) (member (codes "to") (string to) no_members))))
 
 -- a code, a reference and a whole number of cents
 abbrev pub HasPosting : List ℕ × List ℕ × ℤ → Data → Type 0

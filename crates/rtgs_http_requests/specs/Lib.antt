@@ -5,8 +5,10 @@ pub mod Contents
 pub mod Exchange
 pub mod Faults
 pub mod Meaning
+pub mod OrderBody
 pub mod Plans
 pub mod Same
+pub mod Spelling
 pub mod Steps
 pub mod feeds
 pub mod heads

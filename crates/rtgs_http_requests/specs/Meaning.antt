@@ -1,11 +1,9 @@
 -- What an admitted caller asks for. The path's parameter is judged first, then the body.
-use Rattle.std.specs.Prelude.{◌≡◌, ◌≢◌, ⊤, ℕ, ℤ, Bool, List, Option, None, Some, Result, Ok, Err}
-use Rattle.rtgs_money.specs.Amounts.{IsAmount, IsPostingAmount, IsCredit}
-use Rattle.rtgs_money.specs.Date.{IsBusinessDate, date_text}
+use Rattle.std.specs.Prelude.{◌≡◌, ◌≢◌, ⊤, ℕ, ℤ, Bool, List, Result, Ok, Err}
+use Rattle.rtgs_money.specs.Amounts.{IsPostingAmount, IsCredit}
 use Rattle.rtgs_money.specs.Forms.{IsCode, IsReference}
-use Rattle.rtgs_money.specs.declared.lexical.Lexical.TheVariants.{BadCode, BadReference, BadAmount, BadDate}
+use Rattle.rtgs_money.specs.declared.lexical.Lexical.TheVariants.{BadCode, BadReference, BadAmount}
 use Rattle.rtgs_book.specs.declared.command.Command.TheVariants as command
-use Rattle.rtgs_book.specs.declared.new_order.NewOrder.{NewOrder}
 use Rattle.rtgs_order_files.specs.OrderFile.{IsOrderFile, IsFaultOf}
 use Rattle.rtgs_order_files.specs.declared.batch_fault.BatchFault.TheVariants as batch
 use Rattle.rtgs_http_requests.specs.declared.heads.bank_route.BankRoute.{BankRoute}
@@ -25,41 +23,14 @@ use Rattle.rtgs_http_requests.specs.declared.http_fault.HttpFault.TheVariants as
 use Rattle.rtgs_book.specs.declared.reading.Reading.TheVariants as reading
 use Rattle.rtgs_http_requests.specs.Bodies.{ReadsJson}
 use Rattle.rtgs_http_requests.specs.Callers.{Caller}
-use Rattle.rtgs_http_requests.specs.Contents.{FindsContent, OrderValues, HasOrder, HasPosting, HasCredit, HasDate}
-use Rattle.rtgs_http_requests.specs.Contents.{HasOpening, HasNothing}
+use Rattle.rtgs_http_requests.specs.Contents.{FindsContent, HasPosting, HasCredit, HasDate, HasOpening, HasNothing}
+use Rattle.rtgs_http_requests.specs.OrderBody.{OrderValues, HasOrder, SpellsOrder}
+use Rattle.rtgs_http_requests.specs.Spelling.{SpellsReference, SpellsDate}
 use Rattle.rtgs_http_requests.specs.Steps.{Then}
 
 -- what a request may come to
 abbrev pub Answer : Type 0
 Answer = Result Asked HttpFault
-
--- the reference that a text is
-pub record SpellsReference (text : List ℕ) (outcome : Result (List ℕ) HttpFault) : Type 0 where
-  pub found : IsReference text → outcome ≡ Ok text
-  pub refused : ¬ IsReference text → outcome ≡ Err (fault.Form BadReference)
-
--- the date that a text is, weekends too
-abbrev pub SpellsDate : List ℕ → Result ℕ HttpFault → Type 0
-SpellsDate text (Ok date) = IsBusinessDate date × (text ≡ date_text date)
-SpellsDate text (Err (fault.Form BadDate)) = (date : ℕ) → IsBusinessDate date → text ≢ date_text date
-SpellsDate text (Err _) = ⊥
-
--- the due date that a text is, and none where there is no text
-abbrev pub SpellsDue : Option (List ℕ) → Result (Option ℕ) HttpFault → Type 0
-SpellsDue None outcome = outcome ≡ Ok None
-SpellsDue (Some text) outcome = Then (SpellsDate text) (λ date given. given ≡ Ok (Some date)) outcome
-
--- what the values say of an order, with this due date
-abbrev pub said_by : OrderValues → Option ℕ → NewOrder
-said_by values due = record { reference = values.0; receiver = values.1; amount = values.2; due = due }
-
--- the order of a caller with these values, judged in this order
-pub record SpellsOrder (caller : List ℕ) (values : OrderValues) (answer : Answer) : Type 0 where
-  pub due : IsReference values.0 → IsCode values.1 → IsAmount values.2 → Then (SpellsDue values.3)
-      (λ due given. given ≡ Ok (Submit (command.Order caller (said_by values due)))) answer
-  pub bad_reference : ¬ IsReference values.0 → answer ≡ Err (fault.Form BadReference)
-  pub bad_code : IsReference values.0 → ¬ IsCode values.1 → answer ≡ Err (fault.Form BadCode)
-  pub bad_amount : IsReference values.0 → IsCode values.1 → ¬ IsAmount values.2 → answer ≡ Err (fault.Form BadAmount)
 
 -- the posting with these values, judged in this order
 pub record IsPostingOf (values : List ℕ × List ℕ × ℤ) (answer : Answer) : Type 0 where
@@ -82,9 +53,14 @@ AsksPlainly body asked =
     Then (ReadsJson body) (λ value.
     Then (FindsContent (λ (_ : Unit {0}) given. HasNothing given) value) (λ _ answer. answer ≡ Ok asked))
 
+-- the order of a caller with these values
+abbrev pub SubmitsOrder : List ℕ → OrderValues → Answer → Type 0
+SubmitsOrder caller values =
+    Then (SpellsOrder values) (λ order answer. answer ≡ Ok (Submit (command.Order caller order)))
+
 abbrev pub AsksOrder : List ℕ → List ℕ → Answer → Type 0
 AsksOrder caller body =
-    Then (ReadsJson body) (λ value. Then (FindsContent HasOrder value) (λ values. SpellsOrder caller values))
+    Then (ReadsJson body) (λ value. Then (FindsContent HasOrder value) (λ values. SubmitsOrder caller values))
 
 abbrev pub AsksWithdrawal : List ℕ → List ℕ → List ℕ → Answer → Type 0
 AsksWithdrawal caller parameter body =

@@ -1,16 +1,16 @@
 //! What participants ask for.
-ghost use Rattle.std.specs.Prelude.{option_map};
-ghost use Rattle.rtgs_http_requests.specs.Meaning.{AsksOrder, SpellsOrder, AsksWithdrawal, AsksBatch};
-ghost use Rattle.rtgs_http_requests.specs.Meaning.{AsksOrderName, AsksStatement, MeansBank};
+ghost use Rattle.rtgs_http_requests.specs.Meaning.{AsksOrder, AsksWithdrawal, AsksBatch, AsksOrderName};
+ghost use Rattle.rtgs_http_requests.specs.Meaning.{AsksStatement, MeansBank};
 
 use crate::asked::Asked;
 use crate::body::read_json;
-use crate::contents::{is_nothing, order_of};
+use crate::contents::is_nothing;
 use crate::heads::BankRoute;
 use crate::http_fault::HttpFault;
-use crate::spelling::{spell_date, spell_due, spell_reference};
-use rtgs_book::{Command, NewOrder, Reading};
-use rtgs_money::{Amount, Code, Lexical, Reference};
+use crate::order_body::OrderBody;
+use crate::spelling::{spell_date, spell_reference};
+use rtgs_book::{Command, Reading};
+use rtgs_money::Code;
 use rtgs_order_files::read_orders;
 use std::alloc::Global;
 
@@ -40,34 +40,13 @@ fn read_order(alloc: Global, caller: Code, body: &[u8]) -> Result<Asked, HttpFau
     ensures { AsksOrder caller body.now result }
 {
     let value = read_json(alloc, body)?;
-    let Some((reference, to, amount, due)) = order_of(&value) else {
+    let Some(given) = OrderBody::read(&value) else {
         return Err(HttpFault::WrongFields);
     };
-    spell_order(caller, reference, to, amount, due)
-}
-
-// The order that these values are, each judged by its form, the due date last.
-fn spell_order(
-    caller: Code,
-    reference: &str,
-    to: &str,
-    amount: u64,
-    due: Option<&str>,
-) -> Result<Asked, HttpFault>
-    ensures { SpellsOrder caller (reference.now, to.now, amount, option_map (λ d. d.now) due.entry) result }
-{
-    let reference = Reference::read(reference.as_bytes())?;
-    let receiver = Code::read(to.as_bytes())?;
-    let amount = Amount::from_cents(amount).ok_or(Lexical::BadAmount)?;
-    let due = spell_due(due)?;
+    let order = given.spell()?;
     Ok(Asked::Submit(Command::Order {
         sender: caller,
-        order: NewOrder {
-            reference,
-            receiver,
-            amount,
-            due,
-        },
+        order,
     }))
 }
 

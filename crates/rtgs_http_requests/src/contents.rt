@@ -1,71 +1,10 @@
-//! The members of a body's value: exactly the keys of a route, of their kinds.
-ghost use Rattle.std.specs.Prelude.{◌≡◌, ◌↔◌, ℕ, ℤ, Bool, List, Option, Some, None, IsTrue, IfSome, option_and_then};
-ghost use Rattle.std.specs.Prelude.{option_map};
+//! The members of the value of a body that is no order: exactly the keys of a route, of their kinds.
+ghost use Rattle.std.specs.Prelude.{◌≡◌, ◌↔◌, ℕ, ℤ, Bool, List, None, IsTrue, IfSome, option_and_then};
 ghost use Rattle.serde_json.specs.Find.{as_integer, as_number};
 ghost use Rattle.serde_json.specs.View.{view};
-ghost use Rattle.rtgs_http_requests.specs.Contents.{HasOrder, HasPosting, HasCredit, HasDate, HasChoice, HasOpening};
-ghost use Rattle.rtgs_http_requests.specs.Contents.{HasNothing};
+ghost use Rattle.rtgs_http_requests.specs.Contents.{HasPosting, HasCredit, HasDate, HasChoice, HasOpening, HasNothing};
 
 use serde_json::Value;
-
-/// The reference, the receiver and the amount of an order, and the due date if it has one.
-pub fn order_of(value: &Value) -> Option<(&str, &str, u64, Option<&str>)>
-    ensures some { IfSome result (λ (reference, to, amount, due).
-        HasOrder (reference.now, to.now, amount, option_map (λ d. d.now) due) (view value.now)) }
-    ensures none { result ≡ None → (reference to : List ℕ) (amount : ℕ) (due : Option (List ℕ))
-        → ¬ HasOrder (reference, to, amount, due) (view value.now) }
-{
-    match undated_order_of(value) {
-        Some((reference, to, amount)) => Some((reference, to, amount, None)),
-        None => dated_order_of(value),
-    }
-}
-
-// The same where the order has no due date.
-fn undated_order_of(value: &Value) -> Option<(&str, &str, u64)>
-    ensures some { IfSome result (λ (reference, to, amount).
-        HasOrder (reference.now, to.now, amount, None) (view value.now)) }
-    ensures none { result ≡ None → (reference to : List ℕ) (amount : ℕ)
-        → ¬ HasOrder (reference, to, amount, None) (view value.now) }
-{
-    let mut members = value.as_object()?.iter();
-    let (first, amount) = members.next()?;
-    let (second, reference) = members.next()?;
-    let (third, to) = members.next()?;
-    if members.next().is_some() {
-        return None;
-    }
-    if first.as_str() != "amount" || second.as_str() != "reference" || third.as_str() != "to" {
-        return None;
-    }
-    Some((reference.as_str()?, to.as_str()?, amount.as_u64()?))
-}
-
-// The same where the order has a due date.
-fn dated_order_of(value: &Value) -> Option<(&str, &str, u64, Option<&str>)>
-    ensures some { IfSome result (λ (reference, to, amount, due).
-        HasOrder (reference.now, to.now, amount, option_map (λ d. d.now) due) (view value.now)) }
-    ensures none { result ≡ None → (reference to : List ℕ) (amount : ℕ) (due : List ℕ)
-        → ¬ HasOrder (reference, to, amount, Some due) (view value.now) }
-{
-    let mut members = value.as_object()?.iter();
-    let (first, amount) = members.next()?;
-    let (second, due) = members.next()?;
-    let (third, reference) = members.next()?;
-    let (fourth, to) = members.next()?;
-    if members.next().is_some() || first.as_str() != "amount" || second.as_str() != "due" {
-        return None;
-    }
-    if third.as_str() != "reference" || fourth.as_str() != "to" {
-        return None;
-    }
-    Some((
-        reference.as_str()?,
-        to.as_str()?,
-        amount.as_u64()?,
-        Some(due.as_str()?),
-    ))
-}
 
 /// The code, the reference and the cents of a posting.
 pub fn posting_of(value: &Value) -> Option<(&str, &str, i128)>

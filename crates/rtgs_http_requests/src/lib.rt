@@ -13,6 +13,7 @@ mod http_fault;
 pub mod laws;
 mod meaning;
 mod operator_requests;
+mod order_body;
 mod plan;
 mod spelling;
 
