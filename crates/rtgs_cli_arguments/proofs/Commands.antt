@@ -1,22 +1,13 @@
--- A command with one more argument, and what a parse by the desk's meets.
-use Rattle.std.proofs.Common.{◌≡◌, ◌∙◌, ◌⊎◌, ◌++◌, ◌∷◌, ◌||◌, ◌&&◌, [], inl, inr, ap, ap₂, refl, subst, map, codes}
+-- What a parse by the desk's command line meets.
+use Rattle.std.proofs.Common.{◌≡◌, ◌∙◌, ◌⊎◌, ◌&&◌, inl, inr, ap, refl, subst, map, codes}
 use Rattle.std.proofs.Common.{Bool, true, false, not, Option, Some, None, is_some, option_map}
 use Rattle.std.specs.Prelude.{IfSome}
 use Rattle.std.specs.List.{Any}
-use Rattle.clap.specs.Words.{AddsArg, App, IsParsedFrom, MeetsSubcommandOf, Rule, Shape, Text}
-use Rattle.clap.specs.Words.{app_of, rule_of, with_rule}
-use Rattle.clap.specs.declared.builder.arg.Arg.{Arg}
+use Rattle.clap.specs.Words.{App, IsParsedFrom, MeetsSubcommandOf, Shape, Text, app_of}
 use Rattle.clap.specs.declared.builder.command.Command.{Command}
 use Rattle.clap.specs.declared.builder.command.Command.TheViews.{out-Command}
 use Rattle.clap.specs.declared.parser.matches.ArgMatches.{ArgMatches}
-use Rattle.rtgs_cli_arguments.specs.CommandLine.{IsLine, IsSubcommand, MeetsOne, desk, names}
-
--- a subcommand with one more argument
-pub with_argument : (old new : Command) (argument : Arg) (shape : Shape) (rule : Rule) → IsSubcommand shape old
-    → rule_of argument ≡ rule → argument.global ≡ false → AddsArg old argument new
-    → IsSubcommand (record shape { rules = shape.rules ++ rule ∷ [] }) new
-with_argument old new argument shape rule is rule_is local added =
-    (added.shape local ∙ ap₂ with_rule is.0 rule_is, added.globals ∙ ap₂ (λ a b. a || b) is.1 local)
+use Rattle.rtgs_cli_arguments.specs.CommandLine.{IsLine, MeetsOne, desk, names}
 
 -- a command of which that is plain takes no subcommand but its own
 closed : (a b rest : Bool) → (a && (not b && rest)) ≡ true → b ≡ true → ⊥

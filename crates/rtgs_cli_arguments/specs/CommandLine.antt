@@ -2,8 +2,9 @@
 use Rattle.std.specs.Prelude.{◌≡◌, ◌⊎◌, ◌++◌, ◌∷◌, [], true, false, List, Some, codes, map, pos}
 use Rattle.std.specs.List.{Any}
 use Rattle.clap.specs.Simple.{new_shape}
-use Rattle.clap.specs.Words.{App, Rule, Shape, Text, app_of, new_rule, subcommand_name_of}
+use Rattle.clap.specs.Words.{App, Rule, Shape, Text, app_of, new_rule, rule_of, subcommand_name_of}
 use Rattle.clap.specs.declared.builder.action.ArgAction.TheVariants.{Set, SetTrue}
+use Rattle.clap.specs.declared.builder.arg.Arg.{Arg}
 use Rattle.clap.specs.declared.builder.command.Command.{Command}
 use Rattle.clap.specs.declared.builder.command.Command.TheViews.{out-Command as fields_of}
 use Rattle.clap.specs.declared.builder.value_parser.ValueParser.TheVariants.{Signed}
@@ -39,11 +40,15 @@ refusal = record (new_rule (codes "number")) {
   parser = Some (Signed (pos 0) (pos 255));
 }
 
+-- an option without a value
+abbrev pub flag : Text → Rule
+flag name = record (named (new_rule name)) { action = Some SetTrue }
+
 abbrev pub debit : Rule
-debit = record (named (new_rule (codes "debit"))) { action = Some SetTrue }
+debit = flag (codes "debit")
 
 abbrev pub automatic : Rule
-automatic = record (named (new_rule (codes "automatic"))) { action = Some SetTrue }
+automatic = flag (codes "automatic")
 
 -- a subcommand: its name, and what follows the book's file, in this order
 abbrev pub subcommand : Text → List Rule → Shape
@@ -136,6 +141,14 @@ IsLine line command = (app_of command ≡ line) × ((fields_of command).has_glob
 -- the same of a command without subcommands
 abbrev pub IsSubcommand : Shape → Command → Type 0
 IsSubcommand shape command = IsLine (record { top = shape; subs = [] }) command
+
+-- the argument is so described, and is handed down to no subcommand
+abbrev pub IsArgument : Rule → Arg → Type 0
+IsArgument rule argument = (rule_of argument ≡ rule) × (argument.global ≡ false)
+
+-- a subcommand with one more argument, the last
+abbrev pub with_last : Shape → Rule → Shape
+with_last shape rule = record shape { rules = shape.rules ++ rule ∷ [] }
 
 -- the names of the subcommands
 abbrev pub names : List Text

@@ -1,12 +1,13 @@
 //! Participants, their credit and their postings, as the command line names them.
-ghost use Rattle.std.specs.Prelude.{◌≡◌, IfOk, codes, false};
-ghost use Rattle.clap.specs.Words.{found_of, rows_of, rule_of};
+ghost use Rattle.std.specs.Prelude.{IfOk, codes};
+ghost use Rattle.clap.specs.Words.{found_of, rows_of};
 ghost use Rattle.rtgs_cli_arguments.specs.Invocation.{IsCommand};
 ghost use Rattle.rtgs_cli_arguments.specs.CommandLine as line;
 
 use crate::requests::CommandWords;
-use crate::{code_argument, file_argument, flag, word, word_argument};
-use clap::{Arg, ArgAction, ArgMatches, Command};
+use crate::subcommand::{book_command, flag_argument, with_argument, with_code, with_word};
+use crate::{flag, word};
+use clap::{Arg, ArgMatches, Command};
 use std::alloc::{AllocError, Global};
 
 /// The subcommand that adds a participant: a book's file, a code, a name and a key.
@@ -16,12 +17,10 @@ pub fn add_command<'a>(alloc: Global) -> Result<Command<'a>, AllocError>
     let code = "3 to 8 capitals and digits, a capital first";
     let name = "1 to 40 printable characters";
     let key = "32 characters of 0-9 and a-f";
-    Command::new(alloc, "add")
-        .about("Adds a participant")
-        .arg(file_argument(alloc))?
-        .arg(word_argument(alloc, "code", "CODE", code))?
-        .arg(word_argument(alloc, "name", "NAME", name))?
-        .arg(word_argument(alloc, "key", "KEY", key))
+    let add = book_command(alloc, "add", "Adds a participant");
+    let add = with_word(alloc, add, "code", "CODE", code);
+    let add = with_word(alloc, add, "name", "NAME", name);
+    with_word(alloc, add, "key", "KEY", key)
 }
 
 /// The code, the name and the key of a participant, as they were given.
@@ -40,11 +39,8 @@ pub fn credit_command<'a>(alloc: Global) -> Result<Command<'a>, AllocError>
     ensures { IfOk result (line.IsSubcommand line.credit) }
 {
     let cents = "How far below zero the balance may go, in cents";
-    Command::new(alloc, "credit")
-        .about("Sets the credit limit of a participant")
-        .arg(file_argument(alloc))?
-        .arg(code_argument(alloc))?
-        .arg(word_argument(alloc, "cents", "CENTS", cents))
+    let credit = book_command(alloc, "credit", "Sets the credit limit of a participant");
+    with_word(alloc, with_code(alloc, credit), "cents", "CENTS", cents)
 }
 
 /// The participant and the credit limit, as they were given.
@@ -63,24 +59,18 @@ pub fn post_command<'a>(alloc: Global) -> Result<Command<'a>, AllocError>
 {
     let reference = "1 to 16 capitals, digits and dashes, which name the posting for good";
     let cents = "The amount in cents, without a sign";
-    Command::new(alloc, "post")
-        .about("Posts an amount to a participant's account")
-        .arg(file_argument(alloc))?
-        .arg(code_argument(alloc))?
-        .arg(word_argument(alloc, "reference", "REFERENCE", reference))?
-        .arg(word_argument(alloc, "cents", "CENTS", cents))?
-        .arg(debit_argument(alloc))
+    let post = book_command(alloc, "post", "Posts an amount to a participant's account");
+    let post = with_code(alloc, post);
+    let post = with_word(alloc, post, "reference", "REFERENCE", reference);
+    let post = with_word(alloc, post, "cents", "CENTS", cents);
+    with_argument(post, debit_argument(alloc))
 }
 
 /// The flag of a posting that takes from the account.
 fn debit_argument<'a>(alloc: Global) -> Arg<'a>
-    ensures rule { rule_of result ≡ line.debit }
-    ensures local { result.global ≡ false }
+    ensures { line.IsArgument line.debit result }
 {
-    Arg::new(alloc, "debit")
-        .long("debit")
-        .help("Takes the amount from the account")
-        .action(ArgAction::SetTrue)
+    flag_argument(alloc, "debit", "Takes the amount from the account")
 }
 
 /// The participant, the reference and the amount of a posting, as they were given, and whether it is a debit.

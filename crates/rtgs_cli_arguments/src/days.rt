@@ -1,12 +1,13 @@
 //! The course of a business day, as the command line names it.
-ghost use Rattle.std.specs.Prelude.{◌≡◌, IfOk, ◌∷◌, [], codes, false};
-ghost use Rattle.clap.specs.Words.{found_of, rows_of, rule_of};
+ghost use Rattle.std.specs.Prelude.{IfOk, ◌∷◌, [], codes};
+ghost use Rattle.clap.specs.Words.{found_of, rows_of};
 ghost use Rattle.rtgs_cli_arguments.specs.Invocation.{IsCommand};
 ghost use Rattle.rtgs_cli_arguments.specs.CommandLine as line;
 
 use crate::requests::CommandWords;
-use crate::{date_argument, file_argument, flag, word};
-use clap::{Arg, ArgAction, ArgMatches, Command};
+use crate::subcommand::{book_command, flag_argument, with_argument, with_date};
+use crate::{flag, word};
+use clap::{Arg, ArgMatches, Command};
 use std::alloc::{AllocError, Global};
 
 /// A subcommand of a date.
@@ -17,28 +18,23 @@ fn dated_command<'a>(
 ) -> Result<Command<'a>, AllocError>
     ensures { IfOk result (line.IsSubcommand (line.subcommand name.now (line.word (codes "date") ∷ []))) }
 {
-    Command::new(alloc, name)
-        .about(about)
-        .arg(file_argument(alloc))?
-        .arg(date_argument(alloc))
+    with_date(alloc, book_command(alloc, name, about))
 }
 
 /// The subcommand that opens a business day: a book's file, a date and the flag of an automatic day.
 pub fn open_command<'a>(alloc: Global) -> Result<Command<'a>, AllocError>
     ensures { IfOk result (line.IsSubcommand line.open_day) }
 {
-    dated_command(alloc, "open", "Opens a business day")?.arg(automatic_argument(alloc))
+    let open = dated_command(alloc, "open", "Opens a business day");
+    with_argument(open, automatic_argument(alloc))
 }
 
 /// The flag of a day in which a resolution follows each command that may free orders.
 fn automatic_argument<'a>(alloc: Global) -> Arg<'a>
-    ensures rule { rule_of result ≡ line.automatic }
-    ensures local { result.global ≡ false }
+    ensures { line.IsArgument line.automatic result }
 {
-    Arg::new(alloc, "automatic")
-        .long("automatic")
-        .help("Resolves gridlock after each command that may free orders")
-        .action(ArgAction::SetTrue)
+    let help = "Resolves gridlock after each command that may free orders";
+    flag_argument(alloc, "automatic", help)
 }
 
 /// The date of the day to open, as it was given, and whether it is automatic.
@@ -55,9 +51,8 @@ pub fn open_words<'a>(given: &ArgMatches<'a>) -> CommandWords<'a>
 pub fn resolve_command<'a>(alloc: Global) -> Result<Command<'a>, AllocError>
     ensures { IfOk result (line.IsSubcommand line.resolve) }
 {
-    Command::new(alloc, "resolve")
-        .about("Settles as many queued orders together as there is cover for")
-        .arg(file_argument(alloc))
+    let about = "Settles as many queued orders together as there is cover for";
+    book_command(alloc, "resolve", about)
 }
 
 /// The subcommand that ends the taking of orders: a book's file and a date.

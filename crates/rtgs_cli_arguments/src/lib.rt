@@ -1,15 +1,16 @@
 //! The arguments of the program, as the command line names them, and the request that they make (`requests`).
 #![tactic(auto)]
 
-ghost use Rattle.std.specs.Prelude.{◌≡◌, ◌++◌, IfOk, codes, false, true};
-ghost use Rattle.clap.specs.Words.{App, Shape, found_of, rows_of, rule_of, subcommand_rows_of, with_subcommand};
+ghost use Rattle.std.specs.Prelude.{◌++◌, IfOk, codes};
+ghost use Rattle.clap.specs.Words.{App, Shape, found_of, rows_of, subcommand_rows_of, with_subcommand};
 ghost use Rattle.clap.specs.declared.parser.matches.ArgMatches.{ArgMatches as Found};
 ghost use Rattle.rtgs_cli_arguments.specs.Invocation.{AreWordsOfRun, Invokes, IsChosen, IsCommand, IsFlag};
 ghost use Rattle.rtgs_cli_arguments.specs.Invocation.{AreWordsOfReading, IsWord};
 ghost use Rattle.rtgs_cli_arguments.specs.CommandLine as line;
 
+use crate::subcommand::book_command;
 use crate::version::VERSION;
-use clap::{Arg, ArgAction, ArgMatches, Command, Error};
+use clap::{ArgMatches, Command, Error};
 use std::alloc::{AllocError, Global};
 
 mod accounts;
@@ -20,6 +21,7 @@ mod readings;
 mod refusals;
 mod requests;
 mod serving;
+mod subcommand;
 mod version;
 
 pub use crate::invocation::Invocation;
@@ -27,86 +29,34 @@ pub use crate::requests::{
     CommandWords, JudgedRequest, ReadingWords, Request, Words, judge_request,
 };
 
-/// The book's file, which each subcommand takes first.
-fn file_argument<'a>(alloc: Global) -> Arg<'a>
-    ensures rule { rule_of result ≡ line.file }
-    ensures local { result.global ≡ false }
-{
-    Arg::new(alloc, "file")
-        .value_name("FILE")
-        .help("The file of the book")
-        .required(true)
-        .action(ArgAction::Set)
-}
-
-/// A word that its own form judges, also where it begins with a dash.
-fn word_argument<'a>(alloc: Global, id: &'a str, shown: &'a str, help: &'a str) -> Arg<'a>
-    ensures rule { rule_of result ≡ line.word id.now }
-    ensures dash { result.allow_hyphen_values ≡ true }
-    ensures plain { rule_of (record result { allow_hyphen_values = false }) ≡ line.needed id.now }
-    ensures local { result.global ≡ false }
-{
-    Arg::new(alloc, id)
-        .value_name(shown)
-        .help(help)
-        .required(true)
-        .action(ArgAction::Set)
-        .allow_hyphen_values(true)
-}
-
-/// The code of a participant that is there.
-fn code_argument<'a>(alloc: Global) -> Arg<'a>
-    ensures rule { rule_of result ≡ line.word (codes "code") }
-    ensures local { result.global ≡ false }
-{
-    word_argument(alloc, "code", "CODE", "The participant")
-}
-
-/// The reference of an order that is there.
-fn reference_argument<'a>(alloc: Global) -> Arg<'a>
-    ensures rule { rule_of result ≡ line.word (codes "reference") }
-    ensures local { result.global ≡ false }
-{
-    word_argument(
-        alloc,
-        "reference",
-        "REFERENCE",
-        "The reference of the order",
-    )
-}
-
-fn date_argument<'a>(alloc: Global) -> Arg<'a>
-    ensures rule { rule_of result ≡ line.word (codes "date") }
-    ensures local { result.global ≡ false }
-{
-    word_argument(alloc, "date", "DATE", "The business date, as YYYY-MM-DD")
-}
-
+/// The subcommand that makes a book: its file alone.
 fn init_command<'a>(alloc: Global) -> Result<Command<'a>, AllocError>
     ensures { IfOk result (line.IsSubcommand line.init) }
 {
-    Command::new(alloc, "init")
-        .about("Makes a new book, without participants")
-        .arg(file_argument(alloc))
+    book_command(alloc, "init", "Makes a new book, without participants")
 }
 
+/// The subcommand that brings a book to the newest version: its file alone.
 fn migrate_command<'a>(alloc: Global) -> Result<Command<'a>, AllocError>
     ensures { IfOk result (line.IsSubcommand line.migrate) }
 {
-    Command::new(alloc, "migrate")
-        .about("Brings the tables of a book to the newest version")
-        .arg(file_argument(alloc))
+    book_command(
+        alloc,
+        "migrate",
+        "Brings the tables of a book to the newest version",
+    )
 }
 
-/// A command with one more subcommand.
+/// A command with one more subcommand. It takes results: so its callers do without `?`, each of which is one more exit
+/// to prove.
 fn joined<'a>(
-    command: Command<'a>,
+    command: Result<Command<'a>, AllocError>,
     subcommand: Result<Command<'a>, AllocError>,
 ) -> Result<Command<'a>, AllocError>
-    ensures { (above : App) (below : Shape) → line.IsLine above command.entry
+    ensures { (above : App) (below : Shape) → IfOk command.entry (line.IsLine above)
         → IfOk subcommand.entry (line.IsSubcommand below) → IfOk result (line.IsLine (with_subcommand above below)) }
 {
-    command.subcommand(subcommand?)
+    command?.subcommand(subcommand?)
 }
 
 /// The command line of the desk, without its subcommands.
@@ -124,11 +74,10 @@ fn bare_command<'a>(alloc: Global) -> Result<Command<'a>, AllocError>
 fn with_participants<'a>(alloc: Global) -> Result<Command<'a>, AllocError>
     ensures { IfOk result (line.IsLine (line.desk_with line.of_participants)) }
 {
-    let desk = bare_command(alloc)?;
-    let desk = joined(desk, init_command(alloc))?;
-    let desk = joined(desk, migrate_command(alloc))?;
-    let desk = joined(desk, accounts::add_command(alloc))?;
-    let desk = joined(desk, accounts::credit_command(alloc))?;
+    let desk = joined(bare_command(alloc), init_command(alloc));
+    let desk = joined(desk, migrate_command(alloc));
+    let desk = joined(desk, accounts::add_command(alloc));
+    let desk = joined(desk, accounts::credit_command(alloc));
     joined(desk, accounts::post_command(alloc))
 }
 
@@ -136,12 +85,11 @@ fn with_participants<'a>(alloc: Global) -> Result<Command<'a>, AllocError>
 fn with_days<'a>(alloc: Global) -> Result<Command<'a>, AllocError>
     ensures { IfOk result (line.IsLine (line.desk_with (line.of_participants ++ line.of_days))) }
 {
-    let desk = with_participants(alloc)?;
-    let desk = joined(desk, days::open_command(alloc))?;
-    let desk = joined(desk, orders::import_command(alloc))?;
-    let desk = joined(desk, orders::withdraw_command(alloc))?;
-    let desk = joined(desk, days::resolve_command(alloc))?;
-    let desk = joined(desk, days::cut_off_command(alloc))?;
+    let desk = joined(with_participants(alloc), days::open_command(alloc));
+    let desk = joined(desk, orders::import_command(alloc));
+    let desk = joined(desk, orders::withdraw_command(alloc));
+    let desk = joined(desk, days::resolve_command(alloc));
+    let desk = joined(desk, days::cut_off_command(alloc));
     joined(desk, days::close_command(alloc))
 }
 
@@ -149,14 +97,13 @@ fn with_days<'a>(alloc: Global) -> Result<Command<'a>, AllocError>
 fn desk_command<'a>(alloc: Global) -> Result<Command<'a>, AllocError>
     ensures { IfOk result (line.IsLine line.desk) }
 {
-    let desk = with_days(alloc)?;
-    let desk = joined(desk, readings::account_command(alloc))?;
-    let desk = joined(desk, readings::accounts_command(alloc))?;
-    let desk = joined(desk, readings::queue_command(alloc))?;
-    let desk = joined(desk, readings::order_command(alloc))?;
-    let desk = joined(desk, readings::statement_command(alloc))?;
-    let desk = joined(desk, readings::report_command(alloc))?;
-    let desk = joined(desk, serving::serve_command(alloc))?;
+    let desk = joined(with_days(alloc), readings::account_command(alloc));
+    let desk = joined(desk, readings::accounts_command(alloc));
+    let desk = joined(desk, readings::queue_command(alloc));
+    let desk = joined(desk, readings::order_command(alloc));
+    let desk = joined(desk, readings::statement_command(alloc));
+    let desk = joined(desk, readings::report_command(alloc));
+    let desk = joined(desk, serving::serve_command(alloc));
     joined(desk, refusals::explain_command(alloc))
 }
 

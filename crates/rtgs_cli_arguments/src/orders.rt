@@ -5,7 +5,8 @@ ghost use Rattle.rtgs_cli_arguments.specs.Invocation.{AreWordsOfRun, IsCommand};
 ghost use Rattle.rtgs_cli_arguments.specs.CommandLine as line;
 
 use crate::requests::{CommandWords, Request, Words};
-use crate::{code_argument, file_argument, file_word, reference_argument, word, word_argument};
+use crate::subcommand::{book_command, with_code, with_reference, with_word};
+use crate::{file_word, word};
 use clap::{ArgMatches, Command};
 use std::alloc::{AllocError, Global};
 
@@ -14,11 +15,8 @@ pub fn import_command<'a>(alloc: Global) -> Result<Command<'a>, AllocError>
     ensures { IfOk result (line.IsSubcommand line.import_orders) }
 {
     let orders = "The file of orders, as CSV";
-    Command::new(alloc, "import")
-        .about("Submits a participant's file of orders")
-        .arg(file_argument(alloc))?
-        .arg(code_argument(alloc))?
-        .arg(word_argument(alloc, "orders", "ORDERS", orders))
+    let import = book_command(alloc, "import", "Submits a participant's file of orders");
+    with_word(alloc, with_code(alloc, import), "orders", "ORDERS", orders)
 }
 
 /// The book's file, the participant and the file of orders, as they were given.
@@ -36,11 +34,12 @@ pub fn import_words<'a>(given: &ArgMatches<'a>) -> Words<'a>
 pub fn withdraw_command<'a>(alloc: Global) -> Result<Command<'a>, AllocError>
     ensures { IfOk result (line.IsSubcommand line.withdraw) }
 {
-    Command::new(alloc, "withdraw")
-        .about("Takes back an order that is queued or held")
-        .arg(file_argument(alloc))?
-        .arg(code_argument(alloc))?
-        .arg(reference_argument(alloc))
+    let withdraw = book_command(
+        alloc,
+        "withdraw",
+        "Takes back an order that is queued or held",
+    );
+    with_reference(alloc, with_code(alloc, withdraw))
 }
 
 /// The sender and the reference of an order, as they were given.

@@ -5,7 +5,8 @@ ghost use Rattle.rtgs_cli_arguments.specs.Invocation.{AreWordsOfReading};
 ghost use Rattle.rtgs_cli_arguments.specs.CommandLine as line;
 
 use crate::requests::ReadingWords;
-use crate::{code_argument, date_argument, file_argument, reference_argument, word};
+use crate::subcommand::{book_command, with_code, with_date, with_reference};
+use crate::word;
 use clap::{ArgMatches, Command};
 use std::alloc::{AllocError, Global};
 
@@ -17,10 +18,7 @@ fn participant_command<'a>(
 ) -> Result<Command<'a>, AllocError>
     ensures { IfOk result (line.IsSubcommand (line.subcommand name.now (line.word (codes "code") ∷ []))) }
 {
-    Command::new(alloc, name)
-        .about(about)
-        .arg(file_argument(alloc))?
-        .arg(code_argument(alloc))
+    with_code(alloc, book_command(alloc, name, about))
 }
 
 /// The subcommand that shows an account: a book's file and a participant.
@@ -43,9 +41,11 @@ pub fn account_words<'a>(given: &ArgMatches<'a>) -> ReadingWords<'a>
 pub fn accounts_command<'a>(alloc: Global) -> Result<Command<'a>, AllocError>
     ensures { IfOk result (line.IsSubcommand line.accounts) }
 {
-    Command::new(alloc, "accounts")
-        .about("Shows the accounts of all participants, as JSON")
-        .arg(file_argument(alloc))
+    book_command(
+        alloc,
+        "accounts",
+        "Shows the accounts of all participants, as JSON",
+    )
 }
 
 /// The subcommand that shows a queue: a book's file and a participant.
@@ -72,9 +72,8 @@ pub fn queue_words<'a>(given: &ArgMatches<'a>) -> ReadingWords<'a>
 pub fn order_command<'a>(alloc: Global) -> Result<Command<'a>, AllocError>
     ensures { IfOk result (line.IsSubcommand line.order) }
 {
-    participant_command(alloc, "order", "Shows an order of a participant, as JSON")?.arg(
-        reference_argument(alloc),
-    )
+    let order = participant_command(alloc, "order", "Shows an order of a participant, as JSON");
+    with_reference(alloc, order)
 }
 
 /// The sender and the reference of an order, as they were given.
@@ -91,9 +90,8 @@ pub fn order_words<'a>(given: &ArgMatches<'a>) -> ReadingWords<'a>
 pub fn statement_command<'a>(alloc: Global) -> Result<Command<'a>, AllocError>
     ensures { IfOk result (line.IsSubcommand line.statement) }
 {
-    participant_command(alloc, "statement", "Shows a participant's business day")?.arg(
-        date_argument(alloc),
-    )
+    let statement = participant_command(alloc, "statement", "Shows a participant's business day");
+    with_date(alloc, statement)
 }
 
 /// The participant and the date of a statement, as they were given.
@@ -110,10 +108,12 @@ pub fn statement_words<'a>(given: &ArgMatches<'a>) -> ReadingWords<'a>
 pub fn report_command<'a>(alloc: Global) -> Result<Command<'a>, AllocError>
     ensures { IfOk result (line.IsSubcommand line.report) }
 {
-    Command::new(alloc, "report")
-        .about("Shows the business day of all participants")
-        .arg(file_argument(alloc))?
-        .arg(date_argument(alloc))
+    let report = book_command(
+        alloc,
+        "report",
+        "Shows the business day of all participants",
+    );
+    with_date(alloc, report)
 }
 
 /// The date of a report, as it was given.

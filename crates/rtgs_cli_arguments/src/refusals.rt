@@ -1,9 +1,10 @@
 //! What is said of refusals, as the command line asks for it.
-ghost use Rattle.std.specs.Prelude.{◌≡◌, IfOk, codes, false};
-ghost use Rattle.clap.specs.Words.{found_of, rows_of, rule_of};
+ghost use Rattle.std.specs.Prelude.{IfOk, codes};
+ghost use Rattle.clap.specs.Words.{found_of, rows_of};
 ghost use Rattle.rtgs_cli_arguments.specs.Invocation.{IsChosen, IsNumber, NamesRefusal};
 ghost use Rattle.rtgs_cli_arguments.specs.CommandLine as line;
 
+use crate::subcommand::{bare_subcommand, with_argument};
 use clap::error::ErrorKind;
 use clap::{Arg, ArgAction, ArgMatches, Command, Error, value_parser};
 use rtgs_refusal_texts::kind_numbered;
@@ -12,8 +13,7 @@ use std::alloc::{AllocError, Global};
 
 /// The number of a refusal, which may be left out.
 fn number_argument<'a>(alloc: Global) -> Arg<'a>
-    ensures rule { rule_of result ≡ line.refusal }
-    ensures local { result.global ≡ false }
+    ensures { line.IsArgument line.refusal result }
 {
     Arg::new(alloc, "number")
         .value_name("NUMBER")
@@ -26,9 +26,9 @@ fn number_argument<'a>(alloc: Global) -> Arg<'a>
 pub fn explain_command<'a>(alloc: Global) -> Result<Command<'a>, AllocError>
     ensures { IfOk result (line.IsSubcommand line.explain) }
 {
-    Command::new(alloc, "explain")
-        .about("Says what a refusal means, what it comes from and what to do")
-        .arg(number_argument(alloc))
+    let about = "Says what a refusal means, what it comes from and what to do";
+    let explain = bare_subcommand(alloc, "explain", about);
+    with_argument(explain, number_argument(alloc))
 }
 
 /// The number that was given.

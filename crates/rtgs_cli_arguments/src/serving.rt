@@ -1,31 +1,25 @@
 //! The server, as the command line names it.
-ghost use Rattle.std.specs.Prelude.{◌≡◌, IfOk, codes, false, true};
+ghost use Rattle.std.specs.Prelude.{◌≡◌, IfOk, codes, true, false};
 ghost use Rattle.clap.specs.Words.{found_of, rows_of, rule_of};
 ghost use Rattle.rtgs_cli_arguments.specs.Invocation.{AreWordsOfRun, IsChosen, IsNumber};
 ghost use Rattle.rtgs_cli_arguments.specs.CommandLine as line;
 
 use crate::requests::{Request, Words};
-use crate::{file_argument, file_word, word};
-use clap::{Arg, ArgAction, ArgMatches, Command, value_parser};
+use crate::subcommand::{book_command, needed_argument, with_argument};
+use crate::{file_word, word};
+use clap::{Arg, ArgMatches, Command, value_parser};
 use std::alloc::{AllocError, Global};
 
 /// An option that a run needs.
 fn needed_option<'a>(alloc: Global, name: &'a str, shown: &'a str, help: &'a str) -> Arg<'a>
-    ensures rule { rule_of result ≡ line.named (line.needed name.now) }
-    ensures local { result.global ≡ false }
+    ensures { line.IsArgument (line.named (line.needed name.now)) result }
 {
-    Arg::new(alloc, name)
-        .long(name)
-        .value_name(shown)
-        .help(help)
-        .required(true)
-        .action(ArgAction::Set)
+    needed_argument(alloc, name, shown, help).long(name)
 }
 
 /// The port, 1 to 65535.
 fn port_option<'a>(alloc: Global) -> Arg<'a>
-    ensures rule { rule_of result ≡ line.port }
-    ensures local { result.global ≡ false }
+    ensures { line.IsArgument line.port result }
 {
     needed_option(alloc, "port", "P", "The port on 127.0.0.1, 1 to 65535").value_parser(
         value_parser!(u16).range(1..=65535),
@@ -34,8 +28,7 @@ fn port_option<'a>(alloc: Global) -> Arg<'a>
 
 /// How many connections are served, 1 to 1000000.
 fn count_option<'a>(alloc: Global) -> Arg<'a>
-    ensures rule { rule_of result ≡ line.count }
-    ensures local { result.global ≡ false }
+    ensures { line.IsArgument line.count result }
 {
     needed_option(
         alloc,
@@ -48,11 +41,10 @@ fn count_option<'a>(alloc: Global) -> Arg<'a>
 
 /// The key of the operator, which its own form judges.
 fn key_option<'a>(alloc: Global) -> Arg<'a>
-    ensures rule { rule_of result ≡ line.named (line.word (codes "operator-key")) }
+    ensures rule { line.IsArgument (line.named (line.word (codes "operator-key"))) result }
     ensures dash { result.allow_hyphen_values ≡ true }
     ensures plain { rule_of (record result { allow_hyphen_values = false })
         ≡ line.named (line.needed (codes "operator-key")) }
-    ensures local { result.global ≡ false }
 {
     needed_option(
         alloc,
@@ -67,12 +59,11 @@ fn key_option<'a>(alloc: Global) -> Arg<'a>
 pub fn serve_command<'a>(alloc: Global) -> Result<Command<'a>, AllocError>
     ensures { IfOk result (line.IsSubcommand line.serve) }
 {
-    Command::new(alloc, "serve")
-        .about("Serves connections over HTTP, one after the other")
-        .arg(file_argument(alloc))?
-        .arg(port_option(alloc))?
-        .arg(count_option(alloc))?
-        .arg(key_option(alloc))
+    let about = "Serves connections over HTTP, one after the other";
+    let serve = book_command(alloc, "serve", about);
+    let serve = with_argument(serve, port_option(alloc));
+    let serve = with_argument(serve, count_option(alloc));
+    with_argument(serve, key_option(alloc))
 }
 
 fn port_number(given: &ArgMatches<'_>) -> Option<u16>

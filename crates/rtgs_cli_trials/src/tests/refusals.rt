@@ -61,6 +61,24 @@ fn of_posting(rt: HostRuntime) -> Result<(), Fail> {
     follows_each(&rt, "posting", REFUSED, POSTING)
 }
 
+const DASHES: &str = "\
+account @ -LFA ! refused 30 BadCode
+queue @ -LFA ! refused 30 BadCode
+credit @ -LFA 5 ! refused 30 BadCode
+withdraw @ ALFA -p ! refused 31 BadReference
+withdraw @ ALFA -A-1 ! refused 09 UnknownOrder
+order @ ALFA -A-1 ! refused 09 UnknownOrder
+cutoff @ -024-03-04 ! refused 35 BadDate
+report @ -024-03-04 ! refused 35 BadDate
+statement @ ALFA -024-03-04 ! refused 35 BadDate";
+
+/// A word of a subcommand may begin with a dash, and is judged by its form.
+#[test]
+fn of_words_with_a_dash(rt: HostRuntime) -> Result<(), Fail> {
+    follows(&rt, "dashes", BEGIN)?;
+    follows_each(&rt, "dashes", REFUSED, DASHES)
+}
+
 const TOTALS: &str = "
 $ desk add @ BETA 'Beta Bank' 0000000000000000000000000000000b
 > added
