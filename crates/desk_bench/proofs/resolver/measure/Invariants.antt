@@ -1,5 +1,5 @@
 use Rattle.rtgs_gridlock.specs.Workspaces.{KeepsRoom}
-use Rattle.gridlock_bench.proofs.resolve.Given as goal
+use Rattle.desk_bench.proofs.resolver.measure.Given as goal
 
 abbrev pub invariant-loop : goal.invariant-loop
 invariant-loop g l = record {

@@ -1,10 +1,7 @@
-#![tactic(auto)]
-//! Resolves cascades of growing size among 100 participants. It prints the steps that each takes,
-//! which are the same in every run, and with the argument `times` the shortest of two hundred times too.
+//! The resolver, over cascades among 100 participants.
 use anyhow::{Result, ensure};
 use rtgs_gridlock::{OutOfMemory, Payment, Position, Positions, Queues, Workspace, greatest};
 use std::alloc::{AllocError, Global};
-use std::env;
 use std::rt::Clock;
 use std::time::{Duration, Instant};
 
@@ -47,8 +44,12 @@ fn cascade(alloc: Global, each: usize) -> Result<Queues, OutOfMemory> {
     Ok(queues)
 }
 
-/// Resolves a cascade of so many payments in each queue, and says what it took.
-fn resolve<R: Print + Clock + Alloc<A = Global>>(rt: &R, each: usize, timed: bool) -> Result<()> {
+/// Measures the resolution of a cascade of so many payments in each queue.
+pub fn measure<R: Print + Clock + Alloc<A = Global>>(
+    rt: &R,
+    each: usize,
+    timed: bool,
+) -> Result<()> {
     let positions = poor(rt.alloc())?;
     let queues = cascade(rt.alloc(), each)?;
     let count = queues.payment_count().unwrap_or(0);
@@ -77,13 +78,5 @@ fn resolve<R: Print + Clock + Alloc<A = Global>>(rt: &R, each: usize, timed: boo
         print!(rt; ", {} ns", shortest.as_nanos())?;
     }
     println!(rt;)?;
-    Ok(())
-}
-
-fn main(rt: HostRuntime) -> Result<()> {
-    let timed = env::args(&rt)?.any(|word| word.as_str() == "times");
-    for each in [50, 100, 250, 500] {
-        resolve(&rt, each, timed)?;
-    }
     Ok(())
 }

@@ -1,5 +1,5 @@
 use Rattle.rtgs_http_requests.specs.feeds.Region.{IsOpen}
-use Rattle.http_bench.proofs.heads.judged_in_bytes.Given as goal
+use Rattle.desk_bench.proofs.heads.judged_in_bytes.Given as goal
 
 -- The bytes before this place hold no region.
 abbrev pub invariant-loop-place : goal.invariant-loop-place
