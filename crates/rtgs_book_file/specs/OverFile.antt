@@ -16,9 +16,10 @@ pub record FileFacts (K U C : Type 0) : Type 1 where
   pub was_closed : K → C → Type 0
   -- no desk was opened over it, and what refused it
   pub was_unopened : U → Type 0
-  -- the tables of a new book were made over what the files held, and then the file was closed
+  -- the tables of a new book were made over what the files held, and then the file was closed; what they held is meant
+  -- from when an empty database stands in a file that was missing or empty
   pub was_made : C → Type 0
-  -- no book was made in it, and what refused it
+  -- no book was made in what they held then, and what refused it
   pub was_unmade : U → Type 0
   -- its tables were brought to the newest version, or were of it already, and then the file was closed
   pub was_migrated : Bool → C → Type 0

@@ -136,7 +136,8 @@ fn open_desk<S: Start>(
     }
 }
 
-// Makes the tables of a new book in a file whose lock was taken, and closes it.
+// Makes the tables of a new book in a file whose lock was taken, and closes it. The clauses speak of the files as they
+// are once `make_database` has done what it could: no contract says what that was.
 fn make_book<S: Start>(
     rt: &HostRuntime,
     lock: BookLock<'_, S>,
