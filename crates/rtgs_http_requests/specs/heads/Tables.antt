@@ -1,5 +1,5 @@
 -- The tables of routes, as `matchit` reads their texts.
-use Rattle.std.specs.Prelude.{ℕ, List, [], ◌∷◌, Result, Ok, Err, Option, option_map, codes}
+use Rattle.std.specs.Prelude.{ℕ, List, [], ◌∷◌, ◌++◌, Result, Ok, Err, Option, option_map, codes}
 use Rattle.matchit.specs.Route.{Scan, parse_route}
 use Rattle.matchit.specs.Router.{RouteOf, route_from}
 use Rattle.matchit.specs.Rows.{RowsOf}
@@ -21,37 +21,67 @@ use Rattle.rtgs_http_requests.specs.declared.heads.operator_route.OperatorRoute.
 abbrev pub Paths : Type 0
 Paths = List (List ℕ × Route)
 
-abbrev pub read_paths : Paths
-read_paths =
+-- what a bank reads
+abbrev pub bank_reading_paths : Paths
+bank_reading_paths =
     (codes "/orders/{reference}", Bank ReadOrder)
     ∷ (codes "/account", Bank ReadAccount)
     ∷ (codes "/queue", Bank ReadQueue)
     ∷ (codes "/statements/{date}", Bank ReadStatement)
-    ∷ (codes "/desk/report/{date}", Operator ReadReport)
+    ∷ []
+
+-- what the operator reads
+abbrev pub operator_reading_paths : Paths
+operator_reading_paths =
+    (codes "/desk/report/{date}", Operator ReadReport)
     ∷ (codes "/desk/accounts", Operator ReadAccounts)
     ∷ []
 
-abbrev pub command_paths : Paths
-command_paths =
+-- the paths under GET
+abbrev pub read_paths : Paths
+read_paths = bank_reading_paths ++ operator_reading_paths
+
+-- what a bank does with its orders
+abbrev pub order_paths : Paths
+order_paths =
     (codes "/orders", Bank SendOrder)
     ∷ (codes "/orders/{reference}/withdraw", Bank WithdrawOrder)
     ∷ (codes "/batches", Bank SendBatch)
-    ∷ (codes "/desk/post", Operator Post)
+    ∷ []
+
+-- what the operator does with an account
+abbrev pub account_paths : Paths
+account_paths =
+    (codes "/desk/post", Operator Post)
     ∷ (codes "/desk/credit", Operator SetCredit)
-    ∷ (codes "/desk/open", Operator OpenDay)
+    ∷ []
+
+-- what the operator does with the day
+abbrev pub day_paths : Paths
+day_paths =
+    (codes "/desk/open", Operator OpenDay)
     ∷ (codes "/desk/resolve", Operator Resolve)
     ∷ (codes "/desk/cutoff", Operator CutOff)
     ∷ (codes "/desk/close", Operator CloseDay)
     ∷ []
 
+-- the paths under POST
+abbrev pub command_paths : Paths
+command_paths = order_paths ++ (account_paths ++ day_paths)
+
+-- these rows, and that of this path, if it can be read
 abbrev pub with_path : Result Scan InsertError → Route → RowsOf (RouteOf Route) → RowsOf (RouteOf Route)
 with_path (Ok scan) route rows = placed (scan.pattern, route_from scan route) rows
 with_path (Err fault) route rows = rows
 
+-- these rows with those of these paths placed among them, the last path first
+abbrev pub with_paths : Paths → RowsOf (RouteOf Route) → RowsOf (RouteOf Route)
+with_paths [] rows = rows
+with_paths (path ∷ paths) rows = with_path (parse_route path.0) path.1 (with_paths paths rows)
+
 -- the rows of a router that holds these paths
 abbrev pub holding : Paths → RowsOf (RouteOf Route)
-holding [] = []
-holding (path ∷ paths) = with_path (parse_route path.0) path.1 (holding paths)
+holding paths = with_paths paths []
 
 -- what the first parameter took
 abbrev pub first_part : List (List ℕ × List ℕ) → List ℕ

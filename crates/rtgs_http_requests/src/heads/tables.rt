@@ -5,7 +5,9 @@
 //! A line in `whole_paths.rt` spares a path without a parameter these tables.
 ghost use Rattle.std.specs.Prelude.{◌≡◌, IfOk, OnOk};
 ghost use Rattle.matchit.specs.Route.{parse_route};
-ghost use Rattle.rtgs_http_requests.specs.heads.Tables.{holding, with_path, read_paths, command_paths};
+ghost use Rattle.rtgs_http_requests.specs.heads.Tables.{holding, with_path, with_paths, read_paths, command_paths};
+ghost use Rattle.rtgs_http_requests.specs.heads.Tables.{bank_reading_paths, operator_reading_paths};
+ghost use Rattle.rtgs_http_requests.specs.heads.Tables.{order_paths, account_paths, day_paths};
 ghost use Rattle.rtgs_http_requests.specs.declared.heads.route.Route.TheVariants.{Bank, Operator};
 
 use crate::heads::bank_route::BankRoute;
@@ -19,17 +21,29 @@ pub fn read_routes(alloc: Global) -> Result<Router<Route>, AllocError>
     ensures { IfOk result (λ router. router ≡ holding read_paths) }
 {
     let mut router = Router::new(alloc);
-    add_operator(&mut router, "/desk/accounts", OperatorRoute::ReadAccounts)?;
-    add_operator(
-        &mut router,
-        "/desk/report/{date}",
-        OperatorRoute::ReadReport,
-    )?;
-    add_bank(&mut router, "/statements/{date}", BankRoute::ReadStatement)?;
-    add_bank(&mut router, "/queue", BankRoute::ReadQueue)?;
-    add_bank(&mut router, "/account", BankRoute::ReadAccount)?;
-    add_bank(&mut router, "/orders/{reference}", BankRoute::ReadOrder)?;
+    add_operator_readings(&mut router)?;
+    add_bank_readings(&mut router)?;
     Ok(router)
+}
+
+// Adds the paths of what the operator reads.
+fn add_operator_readings(router: &mut Router<Route>) -> Result<(), AllocError>
+    ensures { OnOk result (router.new ≡ with_paths operator_reading_paths router.old) }
+{
+    add_operator(router, "/desk/accounts", OperatorRoute::ReadAccounts)?;
+    add_operator(router, "/desk/report/{date}", OperatorRoute::ReadReport)?;
+    Ok(())
+}
+
+// Adds the paths of what a bank reads.
+fn add_bank_readings(router: &mut Router<Route>) -> Result<(), AllocError>
+    ensures { OnOk result (router.new ≡ with_paths bank_reading_paths router.old) }
+{
+    add_bank(router, "/statements/{date}", BankRoute::ReadStatement)?;
+    add_bank(router, "/queue", BankRoute::ReadQueue)?;
+    add_bank(router, "/account", BankRoute::ReadAccount)?;
+    add_bank(router, "/orders/{reference}", BankRoute::ReadOrder)?;
+    Ok(())
 }
 
 /// The routes under POST. The only error is a lack of memory.
@@ -37,20 +51,44 @@ pub fn command_routes(alloc: Global) -> Result<Router<Route>, AllocError>
     ensures { IfOk result (λ router. router ≡ holding command_paths) }
 {
     let mut router = Router::new(alloc);
-    add_operator(&mut router, "/desk/close", OperatorRoute::CloseDay)?;
-    add_operator(&mut router, "/desk/cutoff", OperatorRoute::CutOff)?;
-    add_operator(&mut router, "/desk/resolve", OperatorRoute::Resolve)?;
-    add_operator(&mut router, "/desk/open", OperatorRoute::OpenDay)?;
-    add_operator(&mut router, "/desk/credit", OperatorRoute::SetCredit)?;
-    add_operator(&mut router, "/desk/post", OperatorRoute::Post)?;
-    add_bank(&mut router, "/batches", BankRoute::SendBatch)?;
+    add_day_routes(&mut router)?;
+    add_account_routes(&mut router)?;
+    add_order_routes(&mut router)?;
+    Ok(router)
+}
+
+// Adds the paths of what the operator does with the day.
+fn add_day_routes(router: &mut Router<Route>) -> Result<(), AllocError>
+    ensures { OnOk result (router.new ≡ with_paths day_paths router.old) }
+{
+    add_operator(router, "/desk/close", OperatorRoute::CloseDay)?;
+    add_operator(router, "/desk/cutoff", OperatorRoute::CutOff)?;
+    add_operator(router, "/desk/resolve", OperatorRoute::Resolve)?;
+    add_operator(router, "/desk/open", OperatorRoute::OpenDay)?;
+    Ok(())
+}
+
+// Adds the paths of what the operator does with an account.
+fn add_account_routes(router: &mut Router<Route>) -> Result<(), AllocError>
+    ensures { OnOk result (router.new ≡ with_paths account_paths router.old) }
+{
+    add_operator(router, "/desk/credit", OperatorRoute::SetCredit)?;
+    add_operator(router, "/desk/post", OperatorRoute::Post)?;
+    Ok(())
+}
+
+// Adds the paths of what a bank does with its orders.
+fn add_order_routes(router: &mut Router<Route>) -> Result<(), AllocError>
+    ensures { OnOk result (router.new ≡ with_paths order_paths router.old) }
+{
+    add_bank(router, "/batches", BankRoute::SendBatch)?;
     add_bank(
-        &mut router,
+        router,
         "/orders/{reference}/withdraw",
         BankRoute::WithdrawOrder,
     )?;
-    add_bank(&mut router, "/orders", BankRoute::SendOrder)?;
-    Ok(router)
+    add_bank(router, "/orders", BankRoute::SendOrder)?;
+    Ok(())
 }
 
 fn add_bank(router: &mut Router<Route>, path: &str, route: BankRoute) -> Result<(), AllocError>

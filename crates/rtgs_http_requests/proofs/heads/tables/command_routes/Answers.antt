@@ -3,15 +3,5 @@ use Rattle.rtgs_http_requests.proofs.heads.tables.command_routes.Goals as goal
 
 pub returns : goal.returns
 returns c =
-    c.in_ok-add_bank-3.ensures
-    ∙ rw (
-      c.in_ok-add_bank-2.ensures,
-      c.in_ok-add_bank.ensures,
-      c.in_ok-add_operator-6.ensures,
-      c.in_ok-add_operator-5.ensures,
-      c.in_ok-add_operator-4.ensures,
-      c.in_ok-add_operator-3.ensures,
-      c.in_ok-add_operator-2.ensures,
-      c.in_ok-add_operator.ensures,
-      c.new-router.ensures,
-    ) refl
+    c.in_ok-add_order_routes.ensures
+    ∙ rw (c.in_ok-add_account_routes.ensures, c.in_ok-add_day_routes.ensures, c.new-router.ensures) refl

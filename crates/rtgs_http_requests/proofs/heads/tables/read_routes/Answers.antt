@@ -3,12 +3,5 @@ use Rattle.rtgs_http_requests.proofs.heads.tables.read_routes.Goals as goal
 
 pub returns : goal.returns
 returns c =
-    c.in_ok-add_bank-4.ensures
-    ∙ rw (
-      c.in_ok-add_bank-3.ensures,
-      c.in_ok-add_bank-2.ensures,
-      c.in_ok-add_bank.ensures,
-      c.in_ok-add_operator-2.ensures,
-      c.in_ok-add_operator.ensures,
-      c.new-router.ensures,
-    ) refl
+    c.in_ok-add_bank_readings.ensures
+    ∙ rw (c.in_ok-add_operator_readings.ensures, c.new-router.ensures) refl

@@ -1,0 +1,11 @@
+use Rattle.std.proofs.Common.{refl, ◌∙◌}
+use Rattle.rtgs_http_requests.proofs.heads.tables.add_day_routes.Goals as goal
+
+pub returns : goal.returns
+returns c =
+    c.in_ok-add_operator-4.ensures
+    ∙ rw (
+      c.in_ok-add_operator-3.ensures,
+      c.in_ok-add_operator-2.ensures,
+      c.in_ok-add_operator.ensures,
+    ) refl
