@@ -1,3 +1,4 @@
 pub mod Commands
+pub mod DayCommands
 pub mod Numbers
 pub mod Served
