@@ -125,7 +125,7 @@ FILES = {
 def page_size(data):
     """How many bytes a page has, by the file's header, or as `init` makes them where that was changed."""
     size = int.from_bytes(data[16:18], "big")
-    return size if size in SIZES else 1024
+    return size if size in SIZES else 512
 
 
 def pages_of(data):

@@ -26,7 +26,7 @@ FILES = {
     "dues.csv": "reference,to,amount,due\nD-1,BETA,1,2024-03-04\nD-2,BETA,1,2024-03-09\nD-3,BETA,1,2024-03-05\n",
     "beta.csv": f"{HEADER}B-1,GAMA,200\n",
     "late.csv": f"{HEADER}B-2,GAMA,1\n",
-    "many.csv": HEADER + "".join(f"A-{it},BETA,1\n" for it in range(1, 101)),
+    "many.csv": HEADER + "".join(f"A-{it},BETA,1\n" for it in range(1, 401)),
 }
 A, B, C, D = (it * 32 for it in "abcd")
 SERVE = f"serve @ --port {{}} --count 1 --operator-key {desks.OPERATOR}"
@@ -205,7 +205,7 @@ def full_streams(edges):
             edges.sees(f"{line} to no output", edges.tried(line, stdout=full), (runs.Ran(3), False))
         for line, status in (("post @ ZETA P-9 1", 1), ("init @", 3), ("pay @", 2)):
             edges.sees(f"{line} to no error", edges.tried(line, stderr=full), (runs.Ran(status), False))
-    desks.new_book(f"{edges.folder}/stops.desk", desks.KEYS, 150)
+    desks.new_book(f"{edges.folder}/stops.desk", desks.KEYS, 400)
     ran, _ = edges.tried("import @ ALFA many.csv", "stops.desk", before=LIMITED)
     is_stopped = ran.out.startswith(f"{RESULTS}\nA-1,settled,1,1\n") and ran.out.endswith(",stopped,,91\n")
     edges.sees("an import that stops", (ran.status, is_stopped, ran.err), (3, True, ""))

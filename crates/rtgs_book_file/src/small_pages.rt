@@ -6,8 +6,8 @@ use sqlite_wal::PageSize;
 use std::alloc::Global;
 
 // How many bytes a page of a new book has. An order changes a few bytes of some five pages, and the store writes each
-// of them whole. In smaller pages still, a large book opens more slowly. Books with other pages are read as well.
-const SMALL_SIZE: usize = 1024;
+// of them whole. The format has no smaller ones. Books with other pages are read as well.
+const SMALL_SIZE: usize = 512;
 
 /// Makes an empty database with small pages in a file that is missing or empty, since the store would make larger ones.
 /// No promise rests on it: where it fails, the store finds what is left, and makes a database there or refuses it.

@@ -142,10 +142,10 @@ $ desk init @
 
 // The bytes 16 and 17 of a file say how many bytes a page of it has.
 #[test]
-fn of_a_new_book_have_pages_of_1024_bytes(rt: HostRuntime) -> Result<(), Fail> {
+fn of_a_new_book_have_pages_of_512_bytes(rt: HostRuntime) -> Result<(), Fail> {
     follows(&rt, "new_pages", NEW)?;
     let file = fs::read(&rt, "new_pages")?;
-    assert!(rt; file.as_slice().get(16..18) == Some([4, 0].as_slice()));
-    assert_eq!(rt; file.len() % 1024, 0);
+    assert!(rt; file.as_slice().get(16..18) == Some([2, 0].as_slice()));
+    assert_eq!(rt; file.len() % 512, 0);
     Ok(())
 }

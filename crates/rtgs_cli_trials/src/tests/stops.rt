@@ -35,10 +35,10 @@ fn run_under_a_limit(rt: HostRuntime) -> Result<(), Fail> {
     stops(&rt)
 }
 
-/// A hundred orders of one cent each, as a file.
+/// Four hundred orders of one cent each, as a file: with what they write, a log is longer than the limit by far.
 fn write_orders(rt: &HostRuntime) -> Result<(), Fail> {
     let mut orders = String::from_str(rt.alloc(), "reference,to,amount\n")?;
-    for number in 1..=100u32 {
+    for number in 1..=400u32 {
         writeln!(orders, "A-{number},BETA,1")?;
     }
     Ok(fs::write(rt, "stopping.csv", orders.as_str())?)
@@ -64,16 +64,23 @@ fn runs_under_a_limit(rt: &HostRuntime) -> Result<(), Fail> {
     Err(Fail::new(format_args!("{said:?}")))
 }
 
+/// With what a day begins with, as much as the orders need.
+const FUNDS: &str = "
+$ desk post @ ALFA P-2 250
+> posted 2
+";
+
 /// The import again takes the orders that it stopped before, and repeats the others.
 const GOES_ON: &str = "
 $ names import @ ALFA stopping.csv
 = A-1,repeated,1,settled
-= A-100,settled,100,100
+= A-400,settled,400,400
 ";
 
 #[test]
 fn a_batch_that_stops_ends_its_run_with_3(rt: HostRuntime) -> Result<(), Fail> {
     follows(&rt, "stopping", DAY)?;
+    follows(&rt, "stopping", FUNDS)?;
     write_orders(&rt)?;
     runs_under_a_limit(&rt)?;
     follows(&rt, "stopping", GOES_ON)
