@@ -2,7 +2,8 @@
 
 An answer and help must stand on standard output alone, and end with 0. A refusal must stand on standard error alone, in
 one line, and end with the status that SPECIFICATION.md lists. The bytes of the book's file must change where a command
-acted, and in no other run. Needs the stock `sqlite3` and a C compiler, `cc`.
+acted, and in no other run. A server must not wait for a peer to close that has its whole reply. Needs the stock
+`sqlite3` and a C compiler, `cc`.
 """
 import fcntl
 import os
@@ -10,6 +11,7 @@ import re
 import shlex
 import shutil
 import socket
+import time
 
 from lib import desks, runs, stated
 from lib.checks import migrations
@@ -105,6 +107,8 @@ OF_ROWS, AT_THE_LAST_NUMBER, NEVER = {2, 3, 5, 7, 20}, {8}, {92}
 # a shell that starts a program whose files may not grow past half a mebibyte
 LIMITED = ["sh", "-c", "trap '' XFSZ; ulimit -f 1024; exec \"$0\" \"$@\""]
 FIRST_REQUESTS = 40
+# how long a request may take beside a peer that does not close, in seconds: a server would wait for it for one
+SOON = 0.5
 
 
 def wanted(answer):
@@ -211,6 +215,20 @@ def full_streams(edges):
     edges.sees("an import that stops", (ran.status, is_stopped, ran.err), (3, True, ""))
 
 
+def open_peer(edges):
+    """A request after one whose peer has its whole reply, and keeps the connection open."""
+    reading = desks.request("GET", "/account", desks.KEYS["ALFA"])
+    with desks.Server(f"{edges.folder}/stops.desk", 3) as server:
+        with socket.create_connection(("127.0.0.1", server.port), timeout=desks.SECONDS) as peer:
+            peer.sendall(reading)
+            reply = b"".join(iter(lambda: peer.recv(65536), b""))
+            start = time.monotonic()
+            edges.sees("the reply beside an open connection", server.asked(reading), reply)
+            edges.sees("a reply that does not wait for it", time.monotonic() - start < SOON, True)
+        edges.sees("the reply to the last request", server.asked(reading), reply)
+        edges.sees("the end of the server", server.ended()[0], 0)
+
+
 def lack_of_memory(edges):
     """A reading of which each of the first requests for memory is refused in turn."""
     library = desks.library("counting", edges.folder)
@@ -234,6 +252,7 @@ def run(_given, report):
         helps(edges)
         explanations(edges)
         full_streams(edges)
+        open_peer(edges)
         lack_of_memory(edges)
     must = set(runs.refusals()) - OF_ROWS - AT_THE_LAST_NUMBER - NEVER
     report.sees("refusals that were met", sorted(edges.met), sorted(must))

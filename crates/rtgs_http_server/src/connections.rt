@@ -1,6 +1,7 @@
 //! Where requests come from.
 ghost use Rattle.std.specs.Prelude.{◌≡◌, ◌+◌, ◌<◌, ℕ};
 
+use http::StatusCode;
 use std::io::{Read, Write};
 
 /// A number of connections that come one after another.
@@ -23,7 +24,7 @@ pub trait Connections {
         requires { 0 < to_come self.old }
         ensures { to_come self.new + 1 ≡ to_come self.old };
 
-    /// Ends a connection to which the whole reply was written, so that its peer gets the reply.
-    fn close(&mut self, reader: Self::Reader, writer: Self::Writer)
+    /// Ends a connection to which the whole reply with this status was written, so that its peer gets the reply.
+    fn close(&mut self, reader: Self::Reader, writer: Self::Writer, status: StatusCode)
         ensures { to_come self.new ≡ to_come self.old };
 }

@@ -5,6 +5,7 @@ use crate::connections::Connections;
 use crate::input::PIECE;
 use crate::reply_writer::ReplyWriter;
 use crate::request_reader::RequestReader;
+use http::StatusCode;
 use std::io;
 use std::io::{ErrorKind, Read};
 use std::net::{Ipv4Addr, TcpListener};
@@ -19,6 +20,8 @@ pub struct Port {
     rt: HostRuntime,
     listener: TcpListener,
     left: u32,
+    /// The last connection, where its request was done and its peer may not have closed it yet.
+    done: Option<RequestReader>,
 }
 
 impl Port {
@@ -31,6 +34,7 @@ impl Port {
             rt: *rt,
             listener: TcpListener::bind(rt, (Ipv4Addr::LOCALHOST, number))?,
             left: count,
+            done: None,
         })
     }
 
@@ -56,15 +60,34 @@ impl Connections for Port {
         self.left
     }
 
+    // The last connection may get no reply, and then nothing is closed any more.
     fn accept(&mut self) -> Option<(RequestReader, ReplyWriter)> {
         self.left -= 1;
+        if self.left == 0 {
+            finish(self.done.take());
+        }
         self.next().ok()
     }
 
     // The writing side is ended first, which tells the peer that the reply is whole. What the peer still sends is read
-    // and dropped: a connection that is closed with bytes unread may lose the reply (RFC 9112, section 9.6).
-    fn close(&mut self, mut reader: RequestReader, writer: ReplyWriter) {
-        if writer.end().is_ok() && reader.linger().is_ok() {
+    // and dropped: a connection that is closed with bytes unread may lose the reply (RFC 9112, section 9.6). A peer
+    // whose request was done has sent all of it. So it has until the next connection is closed to close its own, and
+    // the next does not wait for it.
+    fn close(&mut self, reader: RequestReader, writer: ReplyWriter, status: StatusCode) {
+        if writer.end().is_err() {
+            return;
+        }
+        finish(self.done.replace(reader));
+        if status != StatusCode::OK || self.left == 0 {
+            finish(self.done.take());
+        }
+    }
+}
+
+// Reads and drops what the peer of a connection still sends after its reply, where there is such a connection.
+fn finish(connection: Option<RequestReader>) {
+    if let Some(mut reader) = connection {
+        if reader.linger().is_ok() {
             drop_rest(&mut reader);
         }
     }

@@ -61,7 +61,7 @@ fn serve_next<C: Connections, K: Keeper>(
         return;
     };
     let served = serve_one(alloc, &mut reader, &mut writer, desk, operator);
-    if let Served::Answered(_) = served {
-        connections.close(reader, writer);
+    if let Served::Answered(status) = served {
+        connections.close(reader, writer, status);
     }
 }

@@ -2,6 +2,7 @@
 use super::super::requests::{OTHER, WrittenRequest};
 use super::super::test_desk::TestDesk;
 use super::super::{GOOD, OPERATOR, digest};
+use http::StatusCode;
 use rtgs_book::{Answer, Command, Refusal, WholeAnswer};
 use rtgs_http_server::{Connections, serve_connections};
 use rtgs_tests_desks::Trouble;
@@ -58,7 +59,7 @@ impl<'a> Connections for Scripted<'a> {
         Some((input?, Vec::new(self.alloc)))
     }
 
-    fn close(&mut self, _reader: &'a [u8], writer: Vec<u8>) {
+    fn close(&mut self, _reader: &'a [u8], writer: Vec<u8>, _status: StatusCode) {
         let _ = self.replies.push(writer);
     }
 }
