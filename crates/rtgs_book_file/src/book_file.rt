@@ -16,7 +16,7 @@ use rtgs_desk::Desk;
 use rtgs_keeper::Keeper;
 
 /// The file of a book, as a run uses it: the value is what the file is opened with, so that a run opens at most one
-/// desk by it. What is done over the file is said of a file of any kind, and so the store is known to this crate alone.
+/// desk by it. What is done over the file is said of a file of any kind, so that runs need not know the store.
 pub trait BookFile: Sized {
     /// What keeps the book in the file.
     type Kept: Keeper;

@@ -5,7 +5,7 @@ use Rattle.rtgs_cli_arguments.specs.requests.Requests.{JudgedRequest}
 use Rattle.rtgs_cli_lines.specs.declared.failure.Failure.{Failure}
 use Rattle.rtgs_cli_lines.specs.declared.printed.Printed.{Printed}
 use Rattle.rtgs_book_file.specs.OverFile.{OverFile}
-use Rattle.rtgs_cli_files.specs.Touching.{IsOf}
+use Rattle.rtgs_cli.specs.files.Touching.{IsOf}
 use Rattle.rtgs_cli.specs.Runs.{file_of, Denies, PrintsFor, Traces}
 use Rattle.rtgs_cli.specs.Writers.{Writer}
 

@@ -23,16 +23,16 @@ use Rattle.rtgs_cli_lines.specs.declared.printed.Printed.{Printed}
 use Rattle.rtgs_output.specs.declared.writer_failed.WriterFailed.{WriterFailed}
 use Rattle.rtgs_http_server.specs.declared.port.Port.{Port}
 use Rattle.rtgs_book_file.specs.OverFile.{OverFile}
-use Rattle.rtgs_cli_files.specs.Printing.{ended_line, PrintsText}
-use Rattle.rtgs_cli_files.specs.Touching.{IsNoBookMade, IsNotMigrated, IsOf, IsUntouched}
-use Rattle.rtgs_cli_files.specs.declared.used.Used.{Used}
-use Rattle.rtgs_cli_files.specs.declared.touched.Touched.{Touched}
-use Rattle.rtgs_cli_commands.specs.Commands.{HasMade, HasMigrated, HasAnswered, IsNotAnswered}
-use Rattle.rtgs_cli_imports.specs.Imports.{HasSent, IsNotImported}
-use Rattle.rtgs_cli_imports.specs.declared.order_file.OrderFile.{OrderFile}
-use Rattle.rtgs_cli_readings.specs.Readings as readings
-use Rattle.rtgs_cli_serving.specs.Serving.{Serves, IsNotServed}
-use Rattle.rtgs_cli_serving.specs.declared.no_port.NoPort.{NoPort}
+use Rattle.rtgs_cli.specs.files.Printing.{ended_line, PrintsText}
+use Rattle.rtgs_cli.specs.files.Touching.{IsNoBookMade, IsNotMigrated, IsOf, IsUntouched}
+use Rattle.rtgs_cli.specs.declared.files.used.Used.{Used}
+use Rattle.rtgs_cli.specs.declared.files.touched.Touched.{Touched}
+use Rattle.rtgs_cli.specs.commands.Commands.{HasMade, HasMigrated, HasAnswered, IsNotAnswered}
+use Rattle.rtgs_cli.specs.imports.Imports.{HasSent, IsNotImported}
+use Rattle.rtgs_cli.specs.declared.imports.order_file.OrderFile.{OrderFile}
+use Rattle.rtgs_cli.specs.readings.Readings as readings
+use Rattle.rtgs_cli.specs.serving.Serving.{Serves, IsNotServed}
+use Rattle.rtgs_cli.specs.declared.serving.no_port.NoPort.{NoPort}
 use Rattle.rtgs_cli.specs.Writers.{Writer, Writers, HasTakenNothing, HasTaken}
 
 -- help, or the version, and no fault of the command line

@@ -1,16 +1,16 @@
 //! Which run does what a request asks for.
 ghost use Rattle.std.specs.Prelude.{IfOk, IfErr};
 ghost use Rattle.rtgs_book_file.specs.OverFile.{over};
-ghost use Rattle.rtgs_cli_files.specs.Touching.{IsOf};
+ghost use Rattle.rtgs_cli.specs.files.Touching.{IsOf};
 ghost use Rattle.rtgs_cli.specs.Runs.{file_of, Denies, PrintsFor};
 
+use crate::commands::{answer, make_book, migrate_book};
+use crate::files::{Acted, Used};
+use crate::imports::{OrderFile, import};
+use crate::readings::show;
+use crate::serving::{NoPort, Service, serve};
 use rtgs_book_file::BookFile;
 use rtgs_cli_arguments::{JudgedRequest, Request};
-use rtgs_cli_commands::{answer, make_book, migrate_book};
-use rtgs_cli_files::{Acted, Used};
-use rtgs_cli_imports::{OrderFile, import};
-use rtgs_cli_readings::show;
-use rtgs_cli_serving::{NoPort, Service, serve};
 use rtgs_http_server::Port;
 use rtgs_keeper::Keeper;
 use std::io::Write;

@@ -6,15 +6,15 @@ ghost use Rattle.clap.specs.Words.{kind_of};
 ghost use Rattle.rtgs_output.specs.declared.WriterFailed.{WriterFailed};
 ghost use Rattle.rtgs_cli_lines.specs.Failures.{failure_line as refusal_line};
 ghost use Rattle.rtgs_cli_lines.specs.SentTo.{IsSentTo};
-ghost use Rattle.rtgs_cli_files.specs.Printing.{ended_line};
+ghost use Rattle.rtgs_cli.specs.files.Printing.{ended_line};
 ghost use Rattle.rtgs_cli.specs.Runs.{AreExplained, Ends, EndsAfter, IsDenied, IsExplained, IsCarriedOut};
 
 use crate::actions::{RunUsed, act};
+use crate::files::{Acted, Touched, Traces};
 use clap::Error;
 use clap::error::ErrorKind;
 use rtgs_book_file::{BookFile, FileKeeper};
 use rtgs_cli_arguments::{Invocation, Words, judge_request, read_words};
-use rtgs_cli_files::{Acted, Touched, Traces};
 use rtgs_cli_lines::{Ended, Failure, Printed};
 use rtgs_keeper::Keeper;
 use rtgs_output::send_all;

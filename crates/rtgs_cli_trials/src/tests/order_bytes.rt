@@ -1,5 +1,5 @@
 //! What is read of a file of orders: all that there is, up to one byte more than it may have, or why a read failed.
-use rtgs_cli_imports::read_bytes;
+use rtgs_cli::imports::read_bytes;
 use std::io;
 use std::io::{ErrorKind, Read};
 use std::test::Fail;

@@ -1,8 +1,0 @@
-//! The run that shows what the desk over the file of a book tells of a reading. Where it is refused, nothing is printed
-//! but the rows of a statement before the one that was not read.
-#![tactic(auto)]
-
-mod statements;
-mod texts;
-
-pub use crate::texts::show;
