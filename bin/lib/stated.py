@@ -215,7 +215,7 @@ TEXTS = {
 ELSEWHERE = {
     "README.md": {
         "Three banks owe each other 100 cents in a ring": "rtgs_cli_trials, gridlocks.rt",
-        "A first build took 50 minutes on four processors": "bin/build, timed (docs/COSTS.md)",
+        "A first build took 50 minutes on four quiet processors, 49 on partly busy ones": "bin/build, timed (COSTS)",
     },
     "docs/SPECIFICATION.md": {
         "at most 127 levels deep, without a number too large for a 64-bit float": "rtgs_http_trials, bodies.rt",
