@@ -20,7 +20,7 @@ module _ (law : ChosenAreBeginnings) (book : Book) (sound : IsSound book) where
   is_below p less = let same = length-queues book in omega arith
 
   -- a choice of codes as one of indexes
-  by_index : (other : Choice) → IsFeasible book other → resolver.IsFeasible (positions_of book) (queues_of book)
+  pub by_index : (other : Choice) → IsFeasible book other → resolver.IsFeasible (positions_of book) (queues_of book)
       (λ i. other (code_at book i))
   by_index other feasible = record {
     within = λ p less. let long = queue_length book p (is_below p less) in let fits = feasible.within (code_at book p)

@@ -9,3 +9,4 @@ pub mod Sums
 pub mod Taken
 pub mod Inputs
 pub mod Joining
+pub mod Ceilings

@@ -3,3 +3,4 @@ pub mod Closing
 pub mod OneByOne
 pub mod Settling
 pub mod Joining
+pub mod Ceilings

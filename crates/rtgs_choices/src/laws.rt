@@ -6,6 +6,7 @@ ghost use Rattle.std.specs.List.{AllByRecursion, flat_map};
 ghost use Rattle.rtgs_gridlock.specs.Choices.{AreFloored, AreInRange, IsWithin, payment_count, after};
 ghost use Rattle.rtgs_gridlock.specs.Choices as resolver;
 ghost use Rattle.rtgs_gridlock.specs.Laws.{order_count, value_of};
+ghost use Rattle.rtgs_gridlock.specs.Slack as slack;
 ghost use Rattle.rtgs_book.specs.declared.limits.TheConstants.{MOST_QUEUED};
 ghost use Rattle.rtgs_book.specs.declared.book.Book.{Book};
 ghost use Rattle.rtgs_book.specs.declared.mark.Mark.{Mark};
@@ -18,6 +19,7 @@ ghost use Rattle.rtgs_book.specs.declared.command.Command.TheVariants.{Resolve, 
 ghost use Rattle.rtgs_book.specs.declared.answer.Answer.TheVariants.{Resolved};
 ghost use Rattle.rtgs_book.specs.declared.answer.Answer.TheVariants as answer;
 ghost use Rattle.rtgs_book.specs.Books.{is_cut_off, is_empty, is_queued};
+ghost use Rattle.rtgs_book.specs.Calm.{IsCalm};
 ghost use Rattle.rtgs_book.specs.Lookup.{codes_of};
 ghost use Rattle.rtgs_book.specs.IntSum.{int_sum_by};
 ghost use Rattle.rtgs_book.specs.Balance.{balance, gain};
@@ -29,6 +31,7 @@ ghost use Rattle.rtgs_book.specs.Changes.{balance_set, changed, SetsBalances, Le
 ghost use Rattle.rtgs_book.specs.Soundness.{IsSound};
 ghost use Rattle.rtgs_book.specs.Step.{OwnStep};
 ghost use Rattle.rtgs_choices.specs.ByIndex.{code_at, index_of, positions_of, queues_of, by_code};
+ghost use Rattle.rtgs_choices.specs.Ceilings.{AreBelow, IsCeilingOf, Limits};
 ghost use Rattle.rtgs_choices.specs.Closing.{closed_book, closing_rows};
 ghost use Rattle.rtgs_choices.specs.OneByOne.{ChangesOrders, passes_one};
 ghost use Rattle.rtgs_choices.specs.Settling.{orders_taken, numbers_taken, is_numbered, state_rows, IsOfBalance};
@@ -68,6 +71,23 @@ pub fn choices_agree()
 pub fn greatest_means_greatest()
     ensures { (book : Book) (lengths : ℕ → ℕ) → IsSound book
         → resolver.IsGreatest (positions_of book) (queues_of book) lengths → IsGreatest book (by_code book lengths) }
+{
+    chosen_are_beginnings();
+}
+
+/// Where the resolver finds nothing to settle, the book is calm.
+pub fn calm_means_calm()
+    ensures { (book : Book) → IsSound book → slack.IsCalm (positions_of book) (queues_of book) → IsCalm book }
+{
+    chosen_are_beginnings();
+}
+
+/// While each account's headroom, its balance above its floor, is below its limit, the book is calm.
+/// Such limits are what `greatest` of `rtgs_gridlock` leaves where it chose nothing: each headroom
+/// with its slack on top.
+pub fn calm_below_limits()
+    ensures { (book : Book) (limits : Limits) → IsSound book → IsCeilingOf book limits → AreBelow book limits
+        → IsCalm book }
 {
     chosen_are_beginnings();
 }

@@ -6,7 +6,8 @@ use Rattle.std.proofs.lemmas.List.{length-drop}
 use Rattle.std.proofs.lemmas.List.Sums.{sum_by-append}
 use Rattle.std.proofs.lemmas.Int.{ints}
 use Rattle.rtgs_gridlock.specs.declared.positions.Position.{Position}
-use Rattle.rtgs_gridlock.specs.Choices.{sum_below, amount_to, queue_of, sent, received, IsFeasible, IsGreatest}
+use Rattle.rtgs_gridlock.specs.Choices.{sum_below, amount_to, queue_of, sent, received, IsWithin, IsFeasible}
+use Rattle.rtgs_gridlock.specs.Choices.{IsGreatest}
 use Rattle.rtgs_gridlock.specs.Laws.{IsSettled, order_count, value_of}
 use Rattle.rtgs_gridlock.specs.declared.queues.Payment.{Payment}
 use Rattle.rtgs_gridlock.proofs.Sums.{sum_below-le, sum_by-take-longer}
@@ -54,7 +55,7 @@ received_more positions rest_positions queues rest choice more p settled =
 
 -- what is feasible of the rest is feasible of the whole, on top of what was settled
 pub IsFeasible-more : (positions rest_positions : List Position) (queues rest : List (List Payment))
-    (choice more : ℕ → ℕ) → IsFeasible positions queues choice → IsSettled positions queues choice rest_positions rest
+    (choice more : ℕ → ℕ) → IsWithin queues choice → IsSettled positions queues choice rest_positions rest
     → IsFeasible rest_positions rest more → IsFeasible positions queues (λ s. choice s + more s)
 IsFeasible-more positions rest_positions queues rest choice more is settled feasible = record {
   within = λ p b.
@@ -62,7 +63,7 @@ IsFeasible-more positions rest_positions queues rest choice more is settled feas
       omega (
         arith,
         left,
-        is.within p b,
+        is p b,
         ap length (settled.queues_left p b),
         length-drop (choice p)
             (queue_of queues p),
@@ -74,11 +75,11 @@ IsFeasible-more positions rest_positions queues rest choice more is settled feas
       omega (arith, ints, here, sends, gets, settled.floors p b, settled.balances p b);
 }
 
-sent_none : (queues : List (List Payment)) (p : ℕ) → sent queues (λ _. 0) p ≡ 0
+pub sent_none : (queues : List (List Payment)) (p : ℕ) → sent queues (λ _. 0) p ≡ 0
 unfolding sent
 sent_none queues p = refl
 
-received_none : (queues : List (List Payment)) (p : ℕ) → received queues (λ _. 0) p ≡ 0
+pub received_none : (queues : List (List Payment)) (p : ℕ) → received queues (λ _. 0) p ≡ 0
 unfolding received
 received_none queues p = sum_below-zero (length queues) _ (λ s b. refl)
 
@@ -106,7 +107,7 @@ IsGreatest-settled positions rest_positions queues rest choice is settled = reco
       omega (
         arith,
         is.largest (λ s. choice s + other s) (IsFeasible-more positions rest_positions queues rest choice
-            other is.feasible settled feasible) p inside,
+            other is.feasible.within settled feasible) p inside,
       );
 }
 

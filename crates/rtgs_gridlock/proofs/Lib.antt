@@ -4,3 +4,5 @@ pub mod ListedLemmas
 pub mod FundingLemmas
 pub mod Resolving
 pub mod LawLemmas
+pub mod RaisedLemmas
+pub mod SlackLemmas

@@ -1,20 +1,21 @@
 -- What holds between two turns of a resolution is kept by a turn.
 use Rattle.std.proofs.Common.{[], ◌≡◌, ℕ, List, ◌+◌, ◌-◌, ◌*◌, ◌<◌, ◌≤◌, Bool, false, cond, eqb, length, set, refl, sym}
-use Rattle.std.proofs.Common.{ap, ◌∙◌, subst, inl, inr, arith, Vec, Global, slice_index, get_or, ◌≤ℤ◌}
-use Rattle.std.proofs.lemmas.List.{get_or-set_other, get_or-take}
+use Rattle.std.proofs.Common.{ap, ◌∙◌, subst, ◌⊎◌, inl, inr, arith, Vec, Global, slice_index, get_or, ◌≤ℤ◌, min}
+use Rattle.std.proofs.lemmas.List.{get_or-set_other, get_or-take, length-take}
 use Rattle.std.proofs.lemmas.Int.{ints}
-use Rattle.std.proofs.lemmas.Bool.{cases_eq, cond-true, cond-false, eq-eqb, ne_eqb, false≢true}
+use Rattle.std.proofs.lemmas.Bool.{cases_eq, cases_lt, cond-true, cond-false, eq-eqb, ne_eqb, false≢true}
 use Rattle.rtgs_gridlock.specs.declared.queues.Payment.{Payment}
 use Rattle.rtgs_gridlock.specs.declared.positions.Position.{Position}
 use Rattle.rtgs_gridlock.specs.declared.fundings.Funding.{Funding}
 use Rattle.rtgs_gridlock.specs.declared.workspace.Workspace.{Workspace}
-use Rattle.rtgs_gridlock.specs.Choices.{sum_below, amount_to, position_of, queue_of, payment_count, IsFeasible}
-use Rattle.rtgs_gridlock.specs.Choices.{IsGreatest, IsWithin, AreInRange}
+use Rattle.rtgs_gridlock.specs.Choices.{sum_below, amount_to, position_of, queue_of, payment_count, IsCovered}
+use Rattle.rtgs_gridlock.specs.Choices.{IsFeasible, IsGreatest, IsWithin, AreInRange}
 use Rattle.rtgs_gridlock.specs.Fundings.{funds_of, owed_of, everything, HasEnough, AreFundings}
-use Rattle.rtgs_gridlock.specs.Workspaces.{reserved_participants, participants_of, lengths_of, choice_of, steps_of}
-use Rattle.rtgs_gridlock.specs.Workspaces.{steps_left, untested_count, newest, IsUntested, IsFilled, IsTested}
+use Rattle.rtgs_gridlock.specs.Slack.{AreBelow, IsCeiling, HasSlack, risen}
+use Rattle.rtgs_gridlock.specs.Workspaces.{reserved_participants, participants_of, lengths_of, slacks_of, choice_of}
+use Rattle.rtgs_gridlock.specs.Workspaces.{slack_at, steps_of, steps_left, untested_count, newest, IsUntested, IsFilled, IsTested}
 use Rattle.rtgs_gridlock.specs.Workspaces.{CanTakeBack, IsTakenBack, SameButUntested}
-use Rattle.rtgs_gridlock.specs.Resolving.{IsAboveFeasible, IsResolving}
+use Rattle.rtgs_gridlock.specs.Resolving.{IsResolving}
 use Rattle.rtgs_gridlock.specs.Listed.{on_count}
 use Rattle.rtgs_gridlock.proofs.Sums.{sum_below-same, sum_below_changed}
 use Rattle.rtgs_gridlock.proofs.ListedLemmas.{on_count-clear, none_is_on}
@@ -33,19 +34,25 @@ pub record IsTesting (positions : List Position) (queues : List (List Payment)) 
     pub participants : participants_of workspace ≡ length queues
     pub floored : (p : ℕ) → p < length queues → (position_of positions p).floor ≤ℤ (position_of positions p).balance
     pub within : IsWithin queues (choice_of workspace)
-    pub largest : IsAboveFeasible positions queues (choice_of workspace)
+    pub slack : (p : ℕ) → p < length queues → 0 < slack_at workspace p
+    pub ceiling : IsCeiling queues (choice_of workspace) (risen positions (slack_at workspace))
     pub fundings : AreFundings positions queues (choice_of workspace) workspace.fundings.list
     pub inside : (p : ℕ) → IsUntested workspace p → p < length queues
     pub tested : (p : ℕ) → p < length queues → (IsUntested workspace p → ⊥) → (p ≡ s → ⊥)
         → HasEnough workspace.fundings.list p
 
--- what is said of a choice and its fundings holds of equal ones
+-- what is said of a choice and its slacks
+abbrev pub IsBounded : List Position → List (List Payment) → (ℕ → ℕ) → (ℕ → ℕ) → Type 0
+IsBounded positions queues choice slacks = IsWithin queues choice × ((p : ℕ) → p < length queues → 0 < slacks p)
+    × IsCeiling queues choice (risen positions slacks)
+
+-- what is said of a choice, its slacks and its fundings holds of equal ones
 same_choice : (positions : List Position) (queues : List (List Payment)) (old new : Workspace)
-    → new.lengths ≡ old.lengths → IsWithin queues (choice_of old) × IsAboveFeasible positions queues (choice_of old)
-    → IsWithin queues (choice_of new) × IsAboveFeasible positions queues (choice_of new)
-same_choice positions queues old new e is =
-    subst (λ (x : Vec ℕ Global). IsWithin queues (slice_index x.items)
-    × IsAboveFeasible positions queues (slice_index x.items)) (sym e) is
+    → new.lengths ≡ old.lengths → new.slacks ≡ old.slacks → IsBounded positions queues (choice_of old) (slack_at old)
+    → IsBounded positions queues (choice_of new) (slack_at new)
+same_choice positions queues old new d e is =
+    subst (λ (x : Vec ℕ Global). IsBounded positions queues (slice_index x.items) (slack_at new)) (sym d)
+    (subst (λ (y : Vec ℕ Global). IsBounded positions queues (choice_of old) (slice_index y.items)) (sym e) is)
 
 same_fundings : (positions : List Position) (queues : List (List Payment)) (old new : Workspace)
     → new.lengths ≡ old.lengths → new.fundings.list ≡ old.fundings.list
@@ -62,12 +69,13 @@ pub IsResolving-filled : (positions : List Position) (queues : List (List Paymen
     → ((p : ℕ) → p < participants_of filled → IsUntested listed p)
     → ((p : ℕ) → IsUntested listed p → p < participants_of filled) → IsResolving positions queues listed
 IsResolving-filled positions queues old filled listed floored fill same all only =
-    let choice = same_choice positions queues filled listed same.choice (within, record { above = above }) in
+    let choice = same_choice positions queues filled listed same.choice same.slacks (within, fill.slack, above) in
     record {
       participants = same.participants ∙ fill.participants;
       floored = floored;
       within = choice.0;
-      largest = choice.1;
+      slack = choice.1;
+      ceiling = choice.2;
       fundings = same_fundings positions queues filled listed same.choice same.fundings stands;
       inside = λ p on. omega (arith, only p on, fill.participants);
       tested = λ p b off. absurd (off (all p (omega (arith, b, fill.participants))));
@@ -76,9 +84,8 @@ IsResolving-filled positions queues old filled listed floored fill same all only
     within : IsWithin queues (choice_of filled)
     within p b = omega (arith, fill.choice p b)
 
-    above : (other : ℕ → ℕ) → IsFeasible positions queues other → (p : ℕ) → p < length queues
-        → other p ≤ choice_of filled p
-    above other feasible p b = omega (arith, fill.choice p b, feasible.within p b)
+    above : IsCeiling queues (choice_of filled) (risen positions (slack_at filled))
+    above = record { at_most = λ moved _ other feasible p b. omega (arith, fill.choice p b, feasible.within p b) }
 
     stands : AreFundings positions queues (choice_of filled) filled.fundings.list
     stands = AreFundings-same positions queues (everything queues) (choice_of filled) filled.fundings.list
@@ -108,13 +115,15 @@ pub IsTesting-tested : (positions : List Position) (queues : List (List Payment)
     (before taken tested : Workspace) → IsResolving positions queues before → SameButUntested before taken
     → IsTaken s before taken → IsTested taken tested → IsTesting positions queues tested s
 IsTesting-tested positions queues s before taken tested is same take test =
-    let choice = same_choice positions queues before tested (test.choice ∙ same.choice) (is.within, is.largest) in
+    let choice = same_choice positions queues before tested (test.choice ∙ same.choice) (test.slacks ∙ same.slacks)
+    (is.within, is.slack, is.ceiling) in
     record {
       is_one = is.inside s take.1;
       participants = test.participants ∙ same.participants ∙ is.participants;
       floored = is.floored;
       within = choice.0;
-      largest = choice.1;
+      slack = choice.1;
+      ceiling = choice.2;
       fundings = same_fundings positions queues before tested (test.choice ∙ same.choice)
           (test.fundings ∙ same.fundings) is.fundings;
       inside = inside;
@@ -136,6 +145,10 @@ IsTesting-tested positions queues s before taken tested is same take test =
         subst (λ (xs : List Funding). HasEnough xs p) (sym (test.fundings ∙ same.fundings))
         (is.tested p b (λ on. off (on_of p ∙ (taken_off s before taken take p ne).1 on)))
 
+by_short : {n m : ℕ} → (n < m) ⊎ (m ≤ n) → (m ≤ n → ⊥) → n < m
+by_short (inl less) short = less
+by_short (inr more) short = absurd (short more)
+
 -- a participant that was tested and is short: its newest chosen payment is taken back
 pub IsResolving-taken : (positions : List Position) (queues : List (List Payment)) (s : ℕ)
     (tested back after : Workspace) → IsTesting positions queues tested s → (HasEnough tested.fundings.list s → ⊥)
@@ -146,7 +159,8 @@ IsResolving-taken positions queues s tested back after is short taken same sende
   participants = same.participants ∙ taken.participants ∙ is.participants;
   floored = is.floored;
   within = within;
-  largest = record { above = above };
+  slack = some;
+  ceiling = record { at_most = at_most };
   fundings = AreFundings-taken positions queues (choice_of tested) (choice_of after) tested.fundings.list
       after.fundings.list s is.is_one fewer (is.within s is.is_one) unchanged funds owed is.fundings;
   inside = λ p on. omega (arith, only p on, taken.participants, is.participants);
@@ -178,18 +192,58 @@ IsResolving-taken positions queues s tested back after is short taken same sende
           | inr ne ↦ omega (arith, unchanged p ne, is.within p b)
         ]
 
-    above : (other : ℕ → ℕ) → IsFeasible positions queues other → (p : ℕ) → p < length queues
-        → other p ≤ choice_of after p
-    above other feasible p b =
+    lacks : funds_of tested.fundings.list s < owed_of tested.fundings.list s
+    lacks = by_short (cases_lt (funds_of tested.fundings.list s) (owed_of tested.fundings.list s)) short
+
+    slack_is : (p : ℕ) → slack_at after p ≡ slack_at back p
+    slack_is p = ap (λ (v : Vec ℕ Global). slice_index v.items p) same.slacks
+
+    -- the slack of who is short is at most what it lacks
+    sender_slack : slack_at after s
+        ≡ min (slack_at tested s) (owed_of tested.fundings.list s - funds_of tested.fundings.list s)
+    sender_slack = slack_is s ∙ taken.slack
+
+    some : (p : ℕ) → p < length queues → 0 < slack_at after p
+    some p b =
+        elim (cases_eq p s) [
+          | inl at ↦ subst (λ (q : ℕ). 0 < slack_at after q) (sym at)
+              (omega (arith, sender_slack, lacks, is.slack s is.is_one))
+          | inr ne ↦ omega (arith, slack_is p, taken.other_slacks p ne, is.slack p b)
+        ]
+
+    less_slack : (p : ℕ) → slack_at after p ≤ slack_at tested p
+    less_slack p =
+        elim (cases_eq p s) [
+          | inl at ↦ subst (λ (q : ℕ). slack_at after q ≤ slack_at tested q) (sym at) (omega (arith, sender_slack))
+          | inr ne ↦ omega (arith, slack_is p, taken.other_slacks p ne)
+        ]
+
+    at_most : (moved : List Position) → AreBelow (length queues) moved (risen positions (slack_at after))
+        → (other : ℕ → ℕ) → IsFeasible moved queues other → (p : ℕ) → p < length queues → other p ≤ choice_of after p
+    at_most moved below other feasible p b =
+        let before = λ (q : ℕ) (c : q < length queues). is.ceiling.at_most moved
+        (λ r d. omega (arith, ints, below r d, less_slack r)) other feasible q c in
         elim (cases_eq p s) [
           | inl at ↦
-              let less = short_has_fewer positions queues other (choice_of tested) s feasible
-              (λ q c. is.largest.above other feasible q c) is.is_one
-              (λ covered. short (enough_from_IsCovered positions queues (choice_of tested) tested.fundings.list s
-              is.is_one is.fundings covered)) in
+              let less = short_has_fewer moved queues other (choice_of tested) s feasible before is.is_one still_short in
               subst (λ (q : ℕ). other q ≤ choice_of after q) (sym at) (omega (arith, less, fewer))
-          | inr ne ↦ omega (arith, unchanged p ne, is.largest.above other feasible p b)
+          | inr ne ↦ omega (arith, unchanged p ne, before p b)
         ]
+      where
+        -- what it may rise does not cover what it lacks
+        still_short : IsCovered moved queues (choice_of tested) s → ⊥
+        still_short covered =
+            omega (
+              arith,
+              ints,
+              covered,
+              below s is.is_one,
+              sender_slack,
+              lacks,
+              is.fundings.funds s is.is_one,
+              is.fundings.owed s
+                  is.is_one,
+            )
 
     enough : (p : ℕ) → p < length queues → (IsUntested after p → ⊥) → HasEnough after.fundings.list p
     enough p b off =
@@ -250,8 +304,38 @@ IsGreatest-resolved positions queues workspace none is =
         covered = λ p b. IsCovered-from_fundings positions queues (choice_of workspace) workspace.fundings.list p b
             is.fundings (is.tested p b (λ on. false≢true (sym (none_is_on workspace.untested none p) ∙ on)));
       };
-      largest = is.largest.above;
+      largest = is.ceiling.at_most positions (λ q c. omega (arith, ints, is.slack q c));
     })
+
+-- when everybody is tested, what was kept beside the lengths is their slack
+pub HasSlack-resolved : (positions : List Position) (queues : List (List Payment)) (workspace : Workspace)
+    → IsResolving positions queues workspace
+    → HasSlack positions queues (slice_index (lengths_of workspace)) (slacks_of workspace)
+HasSlack-resolved positions queues workspace is = record {
+  count = omega (
+    arith,
+    length-take {A = ℕ},
+    is.participants,
+    workspace.lengths_sized,
+    workspace.slacks_sized,
+    workspace.slacks.ok,
+  );
+  some = λ p b. omega (arith, slack_is p b, is.slack p b);
+  ceiling = record {
+    at_most = λ moved below other feasible p b. omega (
+      arith,
+      length_is p b,
+      is.ceiling.at_most moved (λ q c. omega (arith, ints, below q c, slack_is q c)) other
+          feasible p b,
+    );
+  };
+}
+  where
+    slack_is : (p : ℕ) → p < length queues → slice_index (slacks_of workspace) p ≡ slack_at workspace p
+    slack_is p b = get_or-take workspace.participants workspace.slacks.items p 0 (omega (arith, b, is.participants))
+
+    length_is : (p : ℕ) → p < length queues → slice_index (lengths_of workspace) p ≡ choice_of workspace p
+    length_is p b = get_or-take workspace.participants workspace.lengths.items p 0 (omega (arith, b, is.participants))
 
 -- the choice with one payment less of a participant
 abbrev pub less_one : (ℕ → ℕ) → ℕ → ℕ → ℕ
@@ -299,4 +383,11 @@ CanTakeBack-short positions queues s tested in_range is short =
     (omega (arith, some, is.within s is.is_one)) in
     let parts = newest_is_within positions queues choice tested.fundings.list s is.is_one some (is.within s is.is_one)
     receives (is.floored _ receives) is.fundings in
-    record { some = some; within = is.within s is.is_one; receiver = receives; owed = parts.0; funds = parts.1 }
+    record {
+      some = some;
+      short = by_short (cases_lt (funds_of tested.fundings.list s) (owed_of tested.fundings.list s)) short;
+      within = is.within s is.is_one;
+      receiver = receives;
+      owed = parts.0;
+      funds = parts.1;
+    }

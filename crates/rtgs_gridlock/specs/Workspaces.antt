@@ -1,5 +1,5 @@
 -- What a workspace holds, and what its steps do.
-use Rattle.std.specs.Prelude.{◌≡◌, ℕ, List, length, take, ◌+◌, ◌-◌, ◌*◌, ◌<◌, ◌≤◌, ◌==◌, slice_index}
+use Rattle.std.specs.Prelude.{◌≡◌, ℕ, List, length, take, ◌+◌, ◌-◌, ◌*◌, ◌<◌, ◌≤◌, ◌==◌, min, slice_index}
 use Rattle.std.specs.Prelude.{slice_index_or, vec_len, if◌then◌else◌}
 use Rattle.rtgs_gridlock.specs.declared.positions.Position.{Position}
 use Rattle.rtgs_gridlock.specs.declared.queues.Payment.{Payment}
@@ -32,6 +32,14 @@ steps_of workspace = workspace.fundings.steps
 abbrev pub choice_of : Workspace → ℕ → ℕ
 choice_of workspace = slice_index workspace.lengths.items
 
+-- by how much each participant was short at least, whenever the last resolution took a payment of it back
+abbrev pub slacks_of : Workspace → List ℕ
+slacks_of workspace = take workspace.participants workspace.slacks.items
+
+-- the same of one participant
+abbrev pub slack_at : Workspace → ℕ → ℕ
+slack_at workspace = slice_index workspace.slacks.items
+
 -- a participant is still to be tested
 abbrev pub IsUntested : Workspace → ℕ → Type 0
 IsUntested workspace p = IsOn workspace.untested p
@@ -49,10 +57,11 @@ steps_left queues workspace = untested_count workspace + 3 * sum_below (length q
 abbrev pub newest : List (List Payment) → (ℕ → ℕ) → ℕ → Payment
 newest queues choice p = slice_index_or (queue_of queues p) (choice p - 1) (record { receiver = 0; amount = 0 })
 
--- a participant has a payment to take back: its newest chosen one goes to a participant, and is
--- part of what it owes and of what the receiver has
+-- a participant is short and has a payment to take back: its newest chosen one goes to a
+-- participant, and is part of what it owes and of what the receiver has
 pub record CanTakeBack (queues : List (List Payment)) (index : ℕ) (workspace : Workspace) : Type 0 where
   pub some : 0 < choice_of workspace index
+  pub short : funds_of workspace.fundings.list index < owed_of workspace.fundings.list index
   pub within : choice_of workspace index ≤ length (queue_of queues index)
   pub receiver : (newest queues (choice_of workspace) index).receiver < length queues
   pub owed : (newest queues (choice_of workspace) index).amount ≤ owed_of workspace.fundings.list index
@@ -69,11 +78,12 @@ pub record KeepsRoom (old new : Workspace) : Type 0 where
   pub participants : reserved_participants new ≡ reserved_participants old
   pub payments : reserved_payments new ≡ reserved_payments old
 
--- all payments are chosen, which is no step
+-- all payments are chosen, which is no step, and nobody was short yet
 pub record IsFilled (positions : List Position) (queues : List (List Payment)) (old new : Workspace) : Type 0 where
   pub participants : participants_of new ≡ length queues
   pub choice : (p : ℕ) → p < length queues → choice_of new p ≡ everything queues p
   pub fundings : AreFundings positions queues (everything queues) new.fundings.list
+  pub slack : (p : ℕ) → p < length queues → 0 < slack_at new p
   pub steps : steps_of new ≡ steps_of old
   pub room : KeepsRoom old new
 
@@ -81,6 +91,7 @@ pub record IsFilled (positions : List Position) (queues : List (List Payment)) (
 pub record SameButUntested (old new : Workspace) : Type 0 where
   pub participants : participants_of new ≡ participants_of old
   pub choice : new.lengths ≡ old.lengths
+  pub slacks : new.slacks ≡ old.slacks
   pub fundings : new.fundings.list ≡ old.fundings.list
   pub steps : steps_of new ≡ steps_of old
   pub payments : reserved_payments new ≡ reserved_payments old
@@ -95,16 +106,21 @@ pub record ListsParties (sender receiver : ℕ) (old new : Workspace) : Type 0 w
 pub record IsTested (old new : Workspace) : Type 0 where
   pub participants : participants_of new ≡ participants_of old
   pub choice : new.lengths ≡ old.lengths
+  pub slacks : new.slacks ≡ old.slacks
   pub fundings : new.fundings.list ≡ old.fundings.list
   pub untested : new.untested ≡ old.untested
   pub steps : IsCounted (steps_of old) (steps_of new)
   pub payments : reserved_payments new ≡ reserved_payments old
 
--- a participant's newest chosen payment is taken back, which counts
+-- a participant's newest chosen payment is taken back, which counts, and its slack is at most by
+-- how much it was short
 pub record IsTakenBack (queues : List (List Payment)) (index : ℕ) (old new : Workspace) : Type 0 where
   pub participants : participants_of new ≡ participants_of old
   pub fewer : choice_of new index + 1 ≡ choice_of old index
   pub others : (p : ℕ) → (p ≡ index → ⊥) → choice_of new p ≡ choice_of old p
+  pub slack : slack_at new index
+      ≡ min (slack_at old index) (owed_of old.fundings.list index - funds_of old.fundings.list index)
+  pub other_slacks : (p : ℕ) → (p ≡ index → ⊥) → slack_at new p ≡ slack_at old p
   pub funds : (p : ℕ) → funds_of new.fundings.list p + amount_to p (newest queues (choice_of old) index)
       ≡ funds_of old.fundings.list p
   pub owed : (p : ℕ) →

@@ -1,5 +1,5 @@
 //! What each participant may spend and owes by the present choice, and the steps that were counted.
-ghost use Rattle.std.specs.Prelude.{◌≡◌, ℕ, ◌+◌, ◌*◌, ◌^◌, ◌<◌, ◌≤◌, ◌↔◌, ◌==◌, ◌+ℤ◌, pos, All, IfOk, IsTrue, length};
+ghost use Rattle.std.specs.Prelude.{◌≡◌, ℕ, ◌+◌, ◌-◌, ◌*◌, ◌^◌, ◌<◌, ◌≤◌, ◌↔◌, ◌==◌, ◌+ℤ◌, pos, All, IfOk, IsTrue, length};
 ghost use Rattle.std.specs.Prelude.{sum_by, if◌then◌else◌};
 ghost use Rattle.rtgs_gridlock.specs.declared.queues.TheConstants.{LARGEST_AMOUNT};
 ghost use Rattle.rtgs_gridlock.specs.Choices.{amount_to, position_of, queue_of, payment_count, received, AreFloored};
@@ -82,12 +82,14 @@ impl Fundings {
         owed <= funds
     }
 
-    /// Takes a payment back: its sender owes less, and its receiver has fewer funds. It counts as a
-    /// step.
-    pub fn take_back(&mut self, sender: usize, payment: Payment)
+    /// Takes a payment back of a sender that is short: it owes less, and the receiver has fewer
+    /// funds. It says by how many cents the sender was short, and counts as a step.
+    pub(crate) fn take_back(&mut self, sender: usize, payment: Payment) -> u128
         requires parties { (sender < length self.old.list) × (payment.receiver < length self.old.list) }
+        requires short { funds_of self.old.list sender < owed_of self.old.list sender }
         requires owed { payment.amount ≤ owed_of self.old.list sender }
         requires funds { payment.amount ≤ funds_of self.old.list payment.receiver }
+        ensures short { result ≡ owed_of self.old.list sender - funds_of self.old.list sender }
         ensures funds { (p : ℕ) → funds_of self.new.list p + amount_to p payment ≡ funds_of self.old.list p }
         ensures owed { (p : ℕ) →
             owed_of self.new.list p + (if p == sender then payment.amount else 0) ≡ owed_of self.old.list p }
@@ -97,9 +99,11 @@ impl Fundings {
         self.steps = self.steps.saturating_add(1);
         let amount = u128::from(payment.amount);
         let from = &mut self.list[sender];
+        let short = from.owed - from.funds;
         from.owed -= amount;
         let to = &mut self.list[payment.receiver];
         to.funds -= amount;
+        short
     }
 }
 

@@ -9,6 +9,7 @@ mod out_of_memory;
 mod positions;
 mod queues;
 mod resolver;
+mod slack;
 mod worklist;
 mod workspace;
 
@@ -17,4 +18,9 @@ pub use out_of_memory::OutOfMemory;
 pub use positions::{Position, Positions};
 pub use queues::{Payment, Queues};
 pub use resolver::greatest;
+pub use slack::{
+    appended_within_slack, appended_without_cover, calm_below_limits, calm_within_slack,
+    last_withdrawn_keeps_limits, no_queue_no_limit, nothing_queued_no_limits,
+    slack_outlasts_settling, withdrawn_within_slack,
+};
 pub use workspace::Workspace;

@@ -2,7 +2,8 @@
 ghost use Rattle.std.specs.Prelude.{◌≡◌, ◌+◌, ◌*◌, ◌^◌, ◌<◌, ◌≤◌, IsTrue, IsFalse, List, length, slice_index};
 ghost use Rattle.rtgs_gridlock.specs.declared.positions.Position.{Position};
 ghost use Rattle.rtgs_gridlock.specs.Choices.{payment_count, AreInRange, AreResolvable, IsGreatest};
-ghost use Rattle.rtgs_gridlock.specs.Workspaces.{reserved_participants, reserved_payments, lengths_of};
+ghost use Rattle.rtgs_gridlock.specs.Slack.{HasSlack};
+ghost use Rattle.rtgs_gridlock.specs.Workspaces.{reserved_participants, reserved_payments, lengths_of, slacks_of};
 ghost use Rattle.rtgs_gridlock.specs.Workspaces.{steps_of, steps_left, untested_count, HasRoomFor, KeepsRoom};
 ghost use Rattle.rtgs_gridlock.specs.Resolving.{IsResolving};
 
@@ -12,9 +13,9 @@ use crate::workspace::Workspace;
 
 /// Leaves in the workspace the lengths of the greatest choice: of the queue beginnings that can
 /// settle together with no participant below its floor, those that are longest at every
-/// participant. It takes no memory, and at most n + 3q steps for n participants and q queued
-/// payments, where a step is one cover test or one removal. The workspace counts them on top of
-/// those that it has counted before.
+/// participant; and beside them each participant's slack. It takes no memory, and at most n + 3q
+/// steps for n participants and q queued payments, where a step is one cover test or one removal.
+/// The workspace counts them on top of those that it has counted before.
 ///
 /// All payments are chosen at first, and the newest chosen payment of a participant without cover
 /// is taken back until all have cover, as in Bech and Soramäki 2001.
@@ -23,6 +24,11 @@ pub fn greatest(positions: &Positions, queues: &Queues, workspace: &mut Workspac
     requires room { HasRoomFor workspace.old queues.now }
     ensures length { length (lengths_of workspace.new) ≡ length queues.now }
     ensures greatest { IsGreatest positions.now queues.now (slice_index (lengths_of workspace.new)) }
+
+    // The choice also bounds what could settle over the same queues, while nobody gets as much
+    // further above its floor as its slack.
+    ensures within_slack { HasSlack positions.now queues.now (slice_index (lengths_of workspace.new))
+        (slacks_of workspace.new) }
     ensures steps { steps_of workspace.new ≤ steps_of workspace.old + length queues.now + 3 * payment_count queues.now }
     ensures counted { steps_of workspace.old ≤ steps_of workspace.new }
     ensures room { KeepsRoom workspace.old workspace.new }
@@ -54,6 +60,8 @@ fn take_turns(queues: &Queues, workspace: &mut Workspace)
     ensures length { length (lengths_of workspace.new) ≡ length queues.now }
     ensures greatest { (positions : List Position) → IsResolving positions queues.now workspace.old →
         IsGreatest positions queues.now (slice_index (lengths_of workspace.new)) }
+    ensures within_slack { (positions : List Position) → IsResolving positions queues.now workspace.old →
+        HasSlack positions queues.now (slice_index (lengths_of workspace.new)) (slacks_of workspace.new) }
     ensures steps { steps_of workspace.new ≤ steps_of workspace.old + steps_left queues.now workspace.old }
     ensures counted { steps_of workspace.old ≤ steps_of workspace.new }
     ensures room { KeepsRoom workspace.old workspace.new }

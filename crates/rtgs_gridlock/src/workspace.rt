@@ -1,6 +1,6 @@
 //! The room that a resolution takes.
 ghost use Rattle.std.specs.Prelude.{◌≡◌, [], ℕ, ◌+◌, ◌^◌, ◌<◌, ◌≤◌, ◌↔◌, IsTrue, IfOk, MatchOption, false, length};
-ghost use Rattle.std.specs.Prelude.{slice_set, slice_index, vec_len};
+ghost use Rattle.std.specs.Prelude.{min, ◌-◌, slice_set, slice_index, vec_len};
 ghost use Rattle.rtgs_gridlock.specs.Choices.{payment_count, AreResolvable};
 ghost use Rattle.rtgs_gridlock.specs.Fundings.{everything, HasEnough};
 
@@ -11,25 +11,27 @@ use crate::queues::{Payment, Queues};
 use crate::worklist::Worklist;
 use std::alloc::Global;
 
-/// The room that a resolution needs: the present choice, each participant's funding by it, and
-/// the participants that are still to be tested. After filling, a cover test (`covered`) and a
-/// removal (`take_back`) are the only ways to the fundings, and the fundings count each as a
-/// step.
+/// The room that a resolution needs: the present choice, each participant's funding by it, by how
+/// much it was short at least when a payment of it was taken back (its slack), and the participants
+/// that are still to be tested. After filling, a cover test (`covered`) and a removal
+/// (`take_back`) are the only ways to the fundings, and the fundings count each as a step.
 #[derive(Drop)]
 pub struct Workspace {
     participants: usize,
     payments: usize,
     lengths: Vec<usize>,
     fundings: Fundings,
+    slacks: Vec<u64>,
     untested: Worklist,
     ghost lengths_sized: { participants ≤ vec_len lengths },
     ghost fundings_sized: { length fundings.list ≡ vec_len lengths },
+    ghost slacks_sized: { vec_len slacks ≡ vec_len lengths },
     ghost untested_sized: { length untested ≡ vec_len lengths },
 }
 
 impl Workspace {
     ghost use Rattle.rtgs_gridlock.specs.Workspaces.{reserved_participants, reserved_payments, participants_of};
-    ghost use Rattle.rtgs_gridlock.specs.Workspaces.{lengths_of, choice_of, steps_of, untested_count, newest};
+    ghost use Rattle.rtgs_gridlock.specs.Workspaces.{lengths_of, choice_of, slacks_of, steps_of, untested_count, newest};
     ghost use Rattle.rtgs_gridlock.specs.Workspaces.{IsUntested, IsFilled, IsTested, CanTakeBack, IsTakenBack};
     ghost use Rattle.rtgs_gridlock.specs.Workspaces.{SameButUntested, ListsParties};
 
@@ -47,12 +49,14 @@ impl Workspace {
     {
         let lengths = vec![in alloc; 0; participants]?;
         let fundings = Fundings::reserve(alloc, participants)?;
+        let slacks = vec![in alloc; 0; participants]?;
         let untested = Worklist::reserve(alloc, participants)?;
         Ok(Workspace {
             participants: 0,
             payments,
             lengths,
             fundings,
+            slacks,
             untested,
         })
     }
@@ -62,6 +66,16 @@ impl Workspace {
         ensures { result.now ≡ lengths_of self.now }
     {
         &self.lengths[..self.participants]
+    }
+
+    /// By how many cents each participant was short at least, whenever the last resolution took a
+    /// payment of it back; the greatest `u64` where it took none. While no participant gets as
+    /// much further above its floor as this, the choice that the resolution left is still at least
+    /// as long as each that could settle, as `greatest` says.
+    pub fn slacks(&self) -> &[u64]
+        ensures { result.now ≡ slacks_of self.now }
+    {
+        &self.slacks[..self.participants]
     }
 
     /// How many cover tests and removals were taken since this workspace was made, in all
@@ -86,6 +100,7 @@ impl Workspace {
         let _payments = self.payments;
         self.participants = queues.len();
         choose_all(&mut self.lengths, queues);
+        clear_slacks(&mut self.slacks, self.participants);
         self.fundings.fill(positions, queues);
     }
 
@@ -98,8 +113,8 @@ impl Workspace {
         self.fundings.covers(index)
     }
 
-    /// Takes back the newest chosen payment of a participant, and says which it was: its sender's
-    /// position rises, and its receiver's falls. It counts as a step.
+    /// Takes back the newest chosen payment of a participant that is short, and says which it was:
+    /// its sender's position rises, and its receiver's falls. It counts as a step.
     pub(crate) fn take_back(&mut self, index: usize, queues: &Queues) -> Payment
         requires index { index < length queues.now }
         requires room { length queues.now ≤ reserved_participants self.old }
@@ -110,7 +125,8 @@ impl Workspace {
         let place = self.lengths[index] - 1;
         let payment = queues.payment(index, place);
         self.lengths[index] = place;
-        self.fundings.take_back(index, payment);
+        let short = self.fundings.take_back(index, payment);
+        lower(&mut self.slacks, index, short);
         payment
     }
 
@@ -158,5 +174,25 @@ fn choose_all(lengths: &mut [usize], queues: &Queues)
 {
     for index in 0..queues.len() {
         lengths[index] = queues.queue(index).len();
+    }
+}
+
+/// Makes the participant's slack the smaller one of what it is and this.
+fn lower(slacks: &mut [u64], index: usize, short: u128)
+    requires { index < length slacks.old }
+    ensures lower { slacks.new ≡ slice_set slacks.old index (min (slice_index slacks.old index) short) }
+{
+    if short < u128::from(slacks[index]) {
+        slacks[index] = short as u64;
+    }
+}
+
+/// Nobody was short yet.
+fn clear_slacks(slacks: &mut [u64], count: usize)
+    requires { count ≤ length slacks.old }
+    ensures { (p : ℕ) → p < count → 0 < slice_index slacks.new p }
+{
+    for index in 0..count {
+        slacks[index] = u64::MAX;
     }
 }

@@ -1,6 +1,6 @@
 -- How balances move, and the rows that set them.
 use Rattle.std.proofs.Common.{◌≡◌, ℕ, ℤ, pos, ◌+ℤ◌, Bool, true, false, cond, ◌&&◌, if◌then◌else◌, List, [], ◌∷◌, ◌++◌}
-use Rattle.std.proofs.Common.{filter, refl, sym, ap, ◌∙◌, true≢false, arith}
+use Rattle.std.proofs.Common.{filter, map, find, not, Option, Some, refl, sym, ap, ◌∙◌, true≢false, arith}
 use Rattle.std.proofs.lemmas.Int.{ints}
 use Rattle.std.proofs.lemmas.List.Elements.{filter-append}
 use Rattle.std.specs.List.{list_any, AllByRecursion}
@@ -17,7 +17,10 @@ use Rattle.rtgs_book.specs.Lookup.{codes_of, is_participant}
 use Rattle.rtgs_book.specs.IntSum.{int_sum_by}
 use Rattle.rtgs_book.specs.Soundness.{has_parties, PartiesAreKnown}
 use Rattle.rtgs_book.specs.declared.account.Account.{Account}
+use Rattle.rtgs_book.specs.declared.change.RowChange.TheVariants.{SetBalance}
+use Rattle.rtgs_book.specs.cores.Following.{AreBalanced}
 use Rattle.rtgs_records.specs.accounts.Accounts.{code_of, is_of, rebalanced, with_balance}
+use Rattle.rtgs_ledger.specs.Resolving.{is_still, has_moved, moved_between}
 use Rattle.rtgs_lists.proofs.Codes.{bytes_eq_comm}
 use Rattle.rtgs_lists.proofs.Lists.{all_weaker}
 use Rattle.rtgs_lists.proofs.Sums.{int_sum_by-append}
@@ -135,3 +138,40 @@ balance_unknown book code parties none =
           (codes_of book) none (second_true _ _ _ e),
     )) book.orders parties.0) in
     rw (postings, orders) refl
+
+-- ---- the balances that are not what they were
+
+abbrev pub Known : Book → List Account → List ℕ → Type 0
+Known old before code = (a : Account) × (find (is_of code) before ≡ Some a) × (a.balance ≡ balance old code)
+
+pub all_known : (old : Book) (before xs : List Account)
+    → AllByRecursion (λ a. find (is_of (code_of a)) before ≡ Some a) xs → AreBalanced old xs
+    → AllByRecursion (Known old before) (map code_of xs)
+all_known old before [] h k = tt
+all_known old before (x ∷ xs) h k = ((x, h.0, k.0), all_known old before xs h.1 k.1)
+
+turned : (before : List Account) (o : Option Account) (x : Account) (a : Account) (z w : ℤ) → o ≡ Some a → a.balance ≡ z
+    → x.balance ≡ w → not (is_still x.balance o) ≡ not (int_eq z w)
+turned before o x a z w e f g = rw (e, f, g) refl
+
+pub moved_are : (old new : Book) (before xs : List Account) → AllByRecursion (Known old before) (map code_of xs)
+    → AreBalanced new xs → moved_between before xs
+    ≡ map (λ code. SetBalance code (balance new code))
+    (filter (λ code. not (int_eq (balance old code) (balance new code))) (map code_of xs))
+moved_are old new before [] h k = refl
+moved_are old new before (x ∷ xs) h k =
+    by (has_moved before x) (not (int_eq (balance old (code_of x)) (balance new (code_of x))))
+    (turned before (find (is_of (code_of x)) before) x h.0.0 (balance old (code_of x)) (balance new (code_of x))
+    h.0.1 h.0.2 k.0) (moved_are old new before xs h.1 k.1)
+  where
+    by : (s t : Bool) → s ≡ t → moved_between before xs ≡ map (λ code. SetBalance code (balance new code))
+        (filter (λ code. not (int_eq (balance old code) (balance new code))) (map code_of xs))
+        → map (λ (a : Account). SetBalance (code_of a) a.balance)
+        (cond s (x ∷ filter (has_moved before) xs) (filter (has_moved before) xs))
+        ≡ map (λ code. SetBalance code (balance new code))
+        (cond t (code_of x ∷ filter (λ code. not (int_eq (balance old code) (balance new code))) (map code_of xs))
+        (filter (λ code. not (int_eq (balance old code) (balance new code))) (map code_of xs)))
+    by true true e rest = λ i. SetBalance (code_of x) (k.0 i) ∷ rest i
+    by false false e rest = rest
+    by true false e rest = absurd (true≢false e)
+    by false true e rest = absurd (true≢false (sym e))

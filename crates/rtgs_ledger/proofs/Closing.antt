@@ -9,9 +9,11 @@ use Rattle.rtgs_book.specs.declared.answer.Answer.TheVariants as answer
 use Rattle.rtgs_book.specs.declared.answer.Known.TheVariants.{Nothing}
 use Rattle.rtgs_book.specs.declared.refusal.Refusal.TheVariants.{WrongPhase, WrongDate, Resolvable, Overdrawn}
 use Rattle.rtgs_book.specs.declared.refusal.Refusal.TheVariants.{OutOfMemory}
-use Rattle.rtgs_book.specs.declared.change.RowChange.TheVariants.{SetDay}
+use Rattle.rtgs_book.specs.declared.change.RowChange.{RowChange}
+use Rattle.rtgs_book.specs.declared.change.RowChange.TheVariants.{SetDay, SetState}
 use Rattle.rtgs_book.specs.declared.book.Book.{Book}
 use Rattle.rtgs_book.specs.declared.order.Order.{Order}
+use Rattle.rtgs_book.specs.declared.order_state.OrderState.{OrderState}
 use Rattle.rtgs_book.specs.declared.order_state.OrderState.TheVariants.{Rejected}
 use Rattle.rtgs_book.specs.declared.participant.Participant.{Participant}
 use Rattle.rtgs_book.specs.declared.phase.Phase.{Phase}
@@ -32,13 +34,12 @@ use Rattle.rtgs_book.specs.Accounts.{is_overdrawn}
 use Rattle.rtgs_records.specs.accounts.Accounts.{code_of, participant_in}
 use Rattle.rtgs_ledger.proofs.Balances.{all_same}
 use Rattle.rtgs_ledger.proofs.Ordering.{is_shut, is_opened, is_day}
-use Rattle.rtgs_ledger.proofs.Rooms.{after-append, accounts_after-states}
 use Rattle.rtgs_ledger.specs.Closing.{IsClosable}
 use Rattle.rtgs_ledger.specs.Kept.{IsRefusedByItself}
 use Rattle.rtgs_records.specs.queues.Laws.{QueuesAreOfTheWaiting}
 use Rattle.rtgs_ledger.proofs.Reading.{numbers_are}
 use Rattle.rtgs_book.specs.cores.Following.{AreBalanced}
-use Rattle.rtgs_ledger.proofs.Whole.{Held, IsKept, IsPrepared, Whole, after, book_of, held_of}
+use Rattle.rtgs_ledger.proofs.Whole.{Held, IsKept, IsPrepared, Whole, after, after_row, book_of, held_of}
 
 not_closed : (p : Phase) → is_cut_off p ≡ true → is_closed p ≡ false
 not_closed Closed e = absurd (cc)
@@ -181,6 +182,15 @@ numbers_queued law orders queued (x ∷ xs) e = λ i. numbers_are law orders que
     ++ numbers_queued law orders queued xs e i
 
 -- ---- the closing
+
+after-append : (held : Held) (rows more : List RowChange) → after held (rows ++ more) ≡ after (after held rows) more
+after-append held [] more = refl
+after-append held (row ∷ rows) more = after-append (after_row held row) rows more
+
+accounts_after-states : (state : OrderState) (numbers : List ℕ) (held : Held)
+    → (after held (state_rows state numbers)).accounts ≡ held.accounts
+accounts_after-states state [] held = refl
+accounts_after-states state (n ∷ ns) held = accounts_after-states state ns (after_row held (SetState n state))
 
 -- to close a day moves no balance
 abbrev ClosingMovesNothing : Type 0

@@ -78,7 +78,7 @@ module _ {X : Type 0} (of : List Order → X)
   queues_stay book (EnterQueue number date ∷ rows) mid h = absurd h.0
   queues_stay book (SetDay day ∷ rows) mid h = absurd h.0
 
-one_unqueued : (code : List ℕ) (os : List Order) (o : Order) → is_queued o ≡ false
+pub one_unqueued : (code : List ℕ) (os : List Order) (o : Order) → is_queued o ≡ false
     → queued_among (os ++ o ∷ []) code ≡ queued_among os code
 one_unqueued code os o e =
     filter-append (λ x. is_queued x && bytes_eq x.sender code) os (o ∷ [])

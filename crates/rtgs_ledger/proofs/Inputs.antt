@@ -184,7 +184,7 @@ taken_few book lengths queued i (x ∷ xs) same short =
     let rest = taken_few book lengths queued (i + 1) xs same short.1 in
     omega (arith, long, part, its, first, rest)
 
-queued_waits : (s : OrderState) → is_queued_state s ≡ true → is_waiting_state s ≡ true
+pub queued_waits : (s : OrderState) → is_queued_state s ≡ true → is_waiting_state s ≡ true
 queued_waits Queued e = refl
 queued_waits Held e = refl
 queued_waits (Settled mark) e = absurd (cc)

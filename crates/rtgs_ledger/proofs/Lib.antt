@@ -22,3 +22,6 @@ pub mod Settling
 pub mod Inputs
 pub mod Whole
 pub mod Withdrawing
+pub mod Limits
+pub mod Appending
+pub mod Leaving

@@ -1,6 +1,6 @@
 -- A row that queues an order out of reach, and one that takes the last of a queue out: nothing may settle after them
 -- that could not before.
-use Rattle.std.proofs.Common.{◌≡◌, ℕ, ◌+◌, ◌-◌, ◌≤◌, ◌<◌, ℤ, pos, ◌+ℤ◌, Bool, true, false, not, cond, ◌&&◌}
+use Rattle.std.proofs.Common.{◌≡◌, ℕ, ◌+◌, ◌-◌, ◌≤◌, ◌<◌, pos, ◌+ℤ◌, Bool, true, false, not, cond, ◌&&◌}
 use Rattle.std.proofs.Common.{if◌then◌else◌, List, [], ◌∷◌, ◌++◌, map, filter, find, length, take, get_or, Some, None}
 use Rattle.std.proofs.Common.{inl, inr, refl, sym, ap, subst, ◌∙◌, true≢false, arith}
 use Rattle.std.proofs.lemmas.Bool.Decides.{nat_tests}
@@ -248,7 +248,7 @@ none_after : (number : ℕ) (o : Order) (xs : List Order) → o.number ≡ numbe
 none_after number o [] e above below = refl
 none_after number o (x ∷ xs) e above below = absurd (let lt = above.0 in let le = below.0 in omega arith)
 
-same_number : (number : ℕ) (o : Order) → has_number number o ≡ true → o.number ≡ number
+pub same_number : (number : ℕ) (o : Order) → has_number number o ≡ true → o.number ≡ number
 same_number number o e = grind (arith, nat_tests)
 
 -- of rising numbers, none above this one, at most the last is left out

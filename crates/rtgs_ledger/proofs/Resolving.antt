@@ -1,8 +1,7 @@
--- A resolution: its rows, the room that they find, and the balances that they leave.
+-- A resolution: its rows, and the balances that they leave.
 use Rattle.std.proofs.Common.{◌≡◌, ℕ, ◌≤◌, ◌+◌, ℤ, pos, ◌+ℤ◌, Bool, true, false, not, cond, if◌then◌else◌, List, []}
 use Rattle.std.proofs.Common.{◌∷◌, ◌++◌, map, filter, length, sum_by, Option, Some, None, unwrap_or, IsTrue, is_some}
 use Rattle.std.proofs.Common.{Ok, Err, refl, sym, ap, ◌∙◌, subst, true≢false, arith}
-use Rattle.std.specs.Prelude.{⊤}
 use Rattle.std.proofs.lemmas.List.{length-map}
 use Rattle.std.specs.List.{AllByRecursion}
 use Rattle.std.specs.Ordering.{int_eq}
@@ -30,25 +29,25 @@ use Rattle.rtgs_book.specs.Outcome.{first_of}
 use Rattle.rtgs_book.specs.Settle.{restated, settle, mark_of, next_mark}
 use Rattle.rtgs_book.specs.Soundness.{IsSound}
 use Rattle.rtgs_book.specs.Step.{OwnStep}
-use Rattle.rtgs_choices.specs.Settling.{orders_taken, numbers_taken, state_rows, IsOfBalance, moves, balance_rows}
-use Rattle.rtgs_choices.specs.Settling.{settling_rows}
+use Rattle.rtgs_choices.specs.Settling.{orders_taken, numbers_taken, state_rows, balance_rows, settling_rows}
 use Rattle.rtgs_book.specs.declared.account.Account.{Account}
-use Rattle.rtgs_records.specs.accounts.Accounts.{code_of, participant_in, is_of, with_balance, with_limit}
-use Rattle.rtgs_ledger.specs.Kept.{WouldAct}
-use Rattle.rtgs_ledger.specs.Resolving.{AreGreatest, after_orders, moved_rows}
-use Rattle.rtgs_ledger.proofs.Balances.{moved, all_moved}
-use Rattle.rtgs_ledger.proofs.Kept.{codes-participants, no_balance_set}
+use Rattle.rtgs_book.specs.declared.cores.cores.Core.{Core}
+use Rattle.rtgs_book.specs.cores.Cores.{IsCoreOf}
 use Rattle.rtgs_book.specs.cores.Following.{AreBalanced}
-use Rattle.rtgs_ledger.proofs.Whole.{Held, IsKept, IsPrepared, Whole, after, after_row, held_of}
+use Rattle.rtgs_records.specs.accounts.Accounts.{code_of, is_of, with_balance, with_limit}
+use Rattle.rtgs_ledger.specs.Following.{AddsNoParticipant}
+use Rattle.rtgs_ledger.specs.Kept.{IsPreparedByItself, WouldAct}
+use Rattle.rtgs_ledger.specs.Resolving.{AreGreatest, IsSettlement, after_orders, has_moved, moved_between, settling}
+use Rattle.rtgs_ledger.proofs.Balances.{Known, all_known, all_moved, moved, moved_are}
+use Rattle.rtgs_ledger.proofs.Inputs.{all_found}
+use Rattle.rtgs_ledger.proofs.Kept.{no_balance_set}
+use Rattle.rtgs_ledger.proofs.Loading.{in_order}
+use Rattle.rtgs_ledger.proofs.Whole.{Held, IsKept, Whole, after, after_row, balanced_core, codes_in_core}
+use Rattle.rtgs_ledger.proofs.Whole.{held_in, held_of, same_accounts}
 use Rattle.rtgs_lists.proofs.Lists.{all_weaker}
 use Rattle.rtgs_lists.proofs.Numbers.{same_from_int_eq}
 
 -- ---- the balances that rows leave
-
--- the row leaves the codes of participants as they are
-abbrev pub LeavesParticipants : RowChange → Type 0
-LeavesParticipants (AddParticipant participant) = ⊥
-LeavesParticipants row = ⊤
 
 -- a limit moves no balance
 pub balanced_limit : (f : List ℕ → ℤ) (code : List ℕ) (credit : ℕ) (xs : List Account)
@@ -79,7 +78,7 @@ set_here b old None false = refl
 set_here b old (Some z) t = refl
 
 -- a running balance becomes what the rows set for it
-pub all_set : (rows : List RowChange) (held : Held) (f : List ℕ → ℤ) → AllByRecursion LeavesParticipants rows
+pub all_set : (rows : List RowChange) (held : Held) (f : List ℕ → ℤ) → AllByRecursion AddsNoParticipant rows
     → AllByRecursion (λ a. a.balance ≡ f (code_of a)) held.accounts
     → AllByRecursion (λ a. a.balance ≡ unwrap_or (balance_set (code_of a) rows) (f (code_of a)))
     (after held rows).accounts
@@ -108,7 +107,7 @@ same_codes code b (x ∷ xs) = λ i. by (is_of code x) i ∷ same_codes code b x
     by true = refl
     by false = refl
 
-pub codes_stay : (rows : List RowChange) (held : Held) → AllByRecursion LeavesParticipants rows
+pub codes_stay : (rows : List RowChange) (held : Held) → AllByRecursion AddsNoParticipant rows
     → map code_of (after held rows).accounts ≡ map code_of held.accounts
 codes_stay [] held h = refl
 codes_stay (SetBalance code b ∷ rows) held h = codes_stay rows (after_row held (SetBalance code b)) h.1
@@ -142,7 +141,7 @@ all_new old new rows (x ∷ xs) h e = (
 )
 
 -- rows that set the balances that move leave the accounts balanced
-pub balanced_after : (held : Held) (rows : List RowChange) (new : Book) → AllByRecursion LeavesParticipants rows
+pub balanced_after : (held : Held) (rows : List RowChange) (new : Book) → AllByRecursion AddsNoParticipant rows
     → AreBalanced held.content held.accounts → codes_of new ≡ map code_of held.accounts
     → SetsBalances held.content rows new → AreBalanced new (after held rows).accounts
 balanced_after held rows new leaves balanced same sets =
@@ -150,75 +149,42 @@ balanced_after held rows new leaves balanced same sets =
     (subst (AllByRecursion (λ code. balance_set code rows ≡ (if int_eq (balance held.content code) (balance new code)
     then None else Some (balance new code)))) (same ∙ sym (codes_stay rows held leaves)) sets)
 
--- ---- the rows of a resolution
+-- ---- rows that add no participant
 
-module _ (book : Book) (choice : Choice) (orders : List Order)
-    (gains : (code : List ℕ) → int_sum_by (gain code) orders ≡ int_sum_by (gain code) (chosen book choice)) where
-  balance_is : (a : Account) → a.balance ≡ balance book (code_of a)
-      → (after_orders orders a).balance ≡ balance_after book choice (code_of a)
-  unfolding balance_after
-  balance_is a e = λ i. e i +ℤ gains (code_of a) i
+-- they give no money to one
+pub starting : (new : Book) (all rows : List RowChange) → AllByRecursion AddsNoParticipant rows
+    → AllByRecursion (StartsEmpty new all) rows
+starting new all [] h = tt
+starting new all (AddParticipant p ∷ rows) h = absurd h.0
+starting new all (AddPosting p ∷ rows) h = (tt, starting new all rows h.1)
+starting new all (AddOrder o ∷ rows) h = (tt, starting new all rows h.1)
+starting new all (AddMark m ∷ rows) h = (tt, starting new all rows h.1)
+starting new all (SetCredit code credit ∷ rows) h = (tt, starting new all rows h.1)
+starting new all (SetBalance code b ∷ rows) h = (tt, starting new all rows h.1)
+starting new all (SetState number state ∷ rows) h = (tt, starting new all rows h.1)
+starting new all (EnterQueue number date ∷ rows) h = (tt, starting new all rows h.1)
+starting new all (SetDay day ∷ rows) h = (tt, starting new all rows h.1)
 
-  rows_are : (xs : List Account) → AreBalanced book xs → moved_rows orders xs
-      ≡ map (λ code. SetBalance code (balance_after book choice code)) (filter (moves book choice) (map code_of xs))
-  rows_are [] h = refl
-  rows_are (x ∷ xs) h =
-      let later = balance_is x h.0 in
-      let test : not (int_eq x.balance (after_orders orders x).balance)
-      ≡ moves book choice (code_of x) = λ i. not (int_eq (h.0 i) (later i)) in
-      by later (not (int_eq x.balance (after_orders orders x).balance)) (moves book choice (code_of x)) test
-      (rows_are xs h.1)
-    where
-      by : (after_orders orders x).balance ≡ balance_after book choice (code_of x) → (s t : Bool) → s ≡ t
-          → moved_rows orders xs ≡ map (λ code. SetBalance code (balance_after book choice code))
-          (filter (moves book choice) (map code_of xs))
-          → map (λ (a : Account). SetBalance (code_of a) a.balance)
-          (map (after_orders orders) (cond s (x ∷ filter
-          (λ (a : Account). not (int_eq a.balance (after_orders orders a).balance)) xs)
-          (filter (λ (a : Account). not (int_eq a.balance (after_orders orders a).balance)) xs)))
-          ≡ map (λ code. SetBalance code (balance_after book choice code))
-          (cond t (code_of x ∷ filter (moves book choice) (map code_of xs))
-          (filter (moves book choice) (map code_of xs)))
-      by later true true e rest = λ i. SetBalance (code_of x) (later i) ∷ rest i
-      by later false false e rest = rest
-      by later true false e rest = absurd (true≢false e)
-      by later false true e rest = absurd (true≢false (sym e))
+-- those of a resolution are such
+pub none_settling : (mark : Mark) (old new : List Account) (orders : List Order)
+    → AllByRecursion AddsNoParticipant (settling orders mark old new)
+none_settling mark old new [] = (tt, by (filter (has_moved old) new))
+  where
+    by : (xs : List Account) → AllByRecursion AddsNoParticipant (map (λ (a : Account). SetBalance (code_of a) a.balance)
+        xs)
+    by [] = tt
+    by (x ∷ xs) = (tt, by xs)
+none_settling mark old new (o ∷ orders) = (tt, none_settling mark old new orders)
 
 states_are : (state : OrderState) (os : List Order) → map (λ (o : Order). SetState o.number state) os
     ≡ state_rows state (map (λ (o : Order). o.number) os)
 states_are state [] = refl
 states_are state (o ∷ os) = ap (λ rows. SetState o.number state ∷ rows) (states_are state os)
 
-set_balances : (f : List ℕ → ℤ) (codes : List (List ℕ)) → AllByRecursion IsOfBalance
-    (map (λ code. SetBalance code (f code)) codes)
-set_balances f [] = tt
-set_balances f (code ∷ codes) = (tt, set_balances f codes)
-
-of_balance : (book : Book) (choice : Choice) → AllByRecursion IsOfBalance (balance_rows book choice)
-unfolding balance_rows
-of_balance book choice = set_balances (balance_after book choice) (filter (moves book choice) (codes_of book))
-
-balances_leave : (rows : List RowChange) → AllByRecursion IsOfBalance rows → AllByRecursion LeavesParticipants rows
-balances_leave [] h = tt
-balances_leave (SetBalance code b ∷ rows) h = (tt, balances_leave rows h.1)
-balances_leave (AddParticipant participant ∷ rows) h = absurd h.0
-balances_leave (SetCredit code credit ∷ rows) h = absurd h.0
-balances_leave (AddPosting posting ∷ rows) h = absurd h.0
-balances_leave (AddOrder order ∷ rows) h = absurd h.0
-balances_leave (AddMark mark ∷ rows) h = absurd h.0
-balances_leave (SetState number state ∷ rows) h = absurd h.0
-balances_leave (EnterQueue number date ∷ rows) h = absurd h.0
-balances_leave (SetDay day ∷ rows) h = absurd h.0
-
-pub states_leave : (state : OrderState) (numbers : List ℕ) (rows : List RowChange)
-    → AllByRecursion LeavesParticipants rows → AllByRecursion LeavesParticipants (state_rows state numbers ++ rows)
-states_leave state [] rows h = h
-states_leave state (n ∷ ns) rows h = (tt, states_leave state ns rows h)
-
-settling_leaves : (book : Book) (choice : Choice) (numbers : List ℕ) (mark : Mark)
-    → AllByRecursion LeavesParticipants (settling_rows book choice numbers mark)
-settling_leaves book choice numbers mark = states_leave (Settled mark.number) numbers
-    (AddMark mark ∷ balance_rows book choice) (tt, balances_leave (balance_rows book choice) (of_balance book choice))
+codes_after_orders : (orders : List Order) (xs : List Account) → map code_of (map (after_orders orders) xs)
+    ≡ map code_of xs
+codes_after_orders orders [] = refl
+codes_after_orders orders (x ∷ xs) = ap (λ codes. code_of x ∷ codes) (codes_after_orders orders xs)
 
 -- ---- a resolution
 
@@ -331,27 +297,24 @@ pub some_chosen : Count → Numbers → (book : Book) (orders : List Order) (g :
 some_chosen count numbers book orders g sound some = some_elements (chosen book g.choice)
     (let n = as_many count numbers book orders g sound in omega arith)
 
-module _ (held : Held) (kept : IsKept held) (orders : List Order) (g : AreGreatest held.content orders) (count : Count)
-    (numbers : Numbers) where
-  abbrev book : Book
-  book = held.content
-
-  pub nothing_chosen : is_closed book.day.phase ≡ false → length orders ≡ 0 → IsPrepared held Resolve answer.Nothing []
+module _ (book : Book) (core : Core) (is : IsCoreOf book core) (orders : List Order) (g : AreGreatest book orders)
+    (count : Count) (numbers : Numbers) where
+  pub nothing_chosen : is_closed book.day.phase ≡ false → length orders ≡ 0
+      → IsPreparedByItself book core Resolve answer.Nothing []
   nothing_chosen opened none =
       record {
         book = book;
-        step = nothing book g.choice g.greatest opened (none_chosen count numbers book orders g kept.sound none);
+        step = nothing book g.choice g.greatest opened (none_chosen count numbers book orders g is.sound none);
         leads = record { book = refl; balances = no_balance_set book };
         added = tt;
         in_range = λ some. absurd (some refl);
-        balanced = kept.balanced;
+        balanced = balanced_core book core is;
         repeated = λ _ _. refl;
         nothing = λ _. refl;
       }
 
-  module _ (same : book.participants ≡ map participant_in held.accounts) (some : 1 ≤ length orders) (mark : Mark)
-      (date : ℕ) (dated : book.day.date ≡ Some date)
-      (is : mark ≡ record {
+  module _ (some : 1 ≤ length orders) (mark : Mark) (date : ℕ) (dated : book.day.date ≡ Some date)
+      (made : mark ≡ record {
         number = length book.marks + 1;
         date = date;
         count = length orders;
@@ -362,6 +325,8 @@ module _ (held : Held) (kept : IsKept held) (orders : List Order) (g : AreGreate
       ≡ sum_by (λ (o : Order). o.amount) (chosen book choice))
       (gains : (book : Book) (choice : Choice) (code : List ℕ) → IsSound book
       → int_sum_by (gain code) (orders_taken book choice) ≡ int_sum_by (gain code) (chosen book choice))
+      (leaving : (book : Book) (choice : Choice) (code : List ℕ)
+      → balance (settle book (is_chosen book choice)) code ≡ balance_after book choice code)
       (steps : (book : Book) (choice : Choice) (mark : Mark) → IsSound book → IsGreatest book choice
       → is_empty (chosen book choice) ≡ false → mark ≡ mark_of book (chosen book choice)
       → OwnStep book Resolve (Ok (answer.Resolved mark.number mark.count mark.value))
@@ -369,61 +334,86 @@ module _ (held : Held) (kept : IsKept held) (orders : List Order) (g : AreGreate
       (leading : (book : Book) (choice : Choice) (mark : Mark) → IsSound book → is_empty (chosen book choice) ≡ false
       → mark ≡ mark_of book (chosen book choice)
       → Leads book (settling_rows book choice (numbers_taken book choice) mark) (settle book (is_chosen book choice)))
-      (adding : (book new : Book) (choice : Choice) (mark : Mark)
-      → AllByRecursion (StartsEmpty new (settling_rows book choice (numbers_taken book choice) mark))
-      (settling_rows book choice (numbers_taken book choice) mark)) where
-    is_mark : mark ≡ mark_of book (chosen book g.choice)
-    unfolding mark_of
-    is_mark =
-        is ∙ (λ i. record {
-          number = length book.marks + 1;
-          date = unwrap_or (sym dated i) 0;
-          count = as_many count numbers book orders g kept.sound i;
-          value = pos ((ap (sum_by (λ (o : Order). o.amount)) g.taken ∙ value book g.choice kept.sound) i);
-        })
+    where
+      abbrev new : Book
+      new = settle book (is_chosen book g.choice)
 
-    any : is_empty (chosen book g.choice) ≡ false
-    any = some_chosen count numbers book orders g kept.sound some
+      abbrev later : List Account
+      later = map (after_orders orders) core.accounts
 
-    codes_are : codes_of book ≡ map code_of held.accounts
-    unfolding codes_of
-    codes_are = ap (map (λ (p : Participant). p.code)) same ∙ sym (codes-participants held.accounts)
+      abbrev rows : List RowChange
+      rows = settling orders mark core.accounts later
 
-    gains_are : (code : List ℕ) → int_sum_by (gain code) orders ≡ int_sum_by (gain code) (chosen book g.choice)
-    gains_are code = ap (int_sum_by (gain code)) g.taken ∙ gains book g.choice code kept.sound
+      is_mark : mark ≡ mark_of book (chosen book g.choice)
+      unfolding mark_of
+      is_mark =
+          made ∙ (λ i. record {
+            number = length book.marks + 1;
+            date = unwrap_or (sym dated i) 0;
+            count = as_many count numbers book orders g is.sound i;
+            value = pos ((ap (sum_by (λ (o : Order). o.amount)) g.taken ∙ value book g.choice is.sound) i);
+          })
 
-    balances_are : moved_rows orders held.accounts ≡ balance_rows book g.choice
-    unfolding balance_rows
-    balances_are =
-        rows_are book g.choice orders gains_are held.accounts kept.balanced
-        ∙ ap (λ codes. map (λ code. SetBalance code (balance_after book g.choice code))
-        (filter (moves book g.choice) codes)) (sym codes_are)
+      any : is_empty (chosen book g.choice) ≡ false
+      any = some_chosen count numbers book orders g is.sound some
 
-    numbers_are : map (λ (o : Order). SetState o.number (Settled mark.number)) orders
-        ≡ state_rows (Settled mark.number) (numbers_taken book g.choice)
-    numbers_are =
-        states_are (Settled mark.number) orders
-        ∙ ap (λ os. state_rows (Settled mark.number) (map (λ (o : Order). o.number) os)) g.taken
-        ∙ ap (state_rows (Settled mark.number)) (sym (numbers book g.choice kept.sound))
+      gained : (code : List ℕ) → int_sum_by (gain code) orders ≡ int_sum_by (gain code) (chosen book g.choice)
+      gained code = ap (int_sum_by (gain code)) g.taken ∙ gains book g.choice code is.sound
 
-    pub resolved : IsPrepared held Resolve (answer.Resolved mark.number mark.count mark.value)
-        (map (λ (o : Order). SetState o.number (Settled mark.number)) orders ++ AddMark mark
-        ∷ moved_rows orders held.accounts)
-    resolved =
-        let step = steps book g.choice mark kept.sound g.greatest any is_mark in
-        let leads = leading book g.choice mark kept.sound any is_mark in
-        let rows = numbers_taken book g.choice in
-        subst (IsPrepared held Resolve (answer.Resolved mark.number mark.count mark.value))
-        (λ i. sym numbers_are i ++ AddMark mark ∷ sym balances_are i)
-        (record {
-          book = settle book (is_chosen book g.choice);
-          step = step;
-          leads = leads;
-          added = adding book (settle book (is_chosen book g.choice)) g.choice mark;
-          in_range = λ _. tt;
-          balanced = balanced_after held (settling_rows book g.choice rows mark)
-              (settle book (is_chosen book g.choice)) (settling_leaves book g.choice rows mark) kept.balanced
-              (codes_settled book (is_chosen book g.choice) ∙ codes_are) leads.balances;
-          repeated = λ k e. absurd (cc);
-          nothing = λ e. absurd (cc);
-        })
+      left : (a : Account) → a.balance ≡ balance book (code_of a)
+          → (after_orders orders a).balance ≡ balance new (code_of a)
+      unfolding balance_after
+      left a e = (λ i. e i +ℤ gained (code_of a) i) ∙ sym (leaving book g.choice (code_of a))
+
+      all_left : (xs : List Account) → AreBalanced book xs → AreBalanced new (map (after_orders orders) xs)
+      all_left [] h = tt
+      all_left (x ∷ xs) h = (left x h.0, all_left xs h.1)
+
+      balanced : AreBalanced new later
+      balanced = all_left core.accounts (balanced_core book core is)
+
+      same : map code_of later ≡ map code_of core.accounts
+      same = codes_after_orders orders core.accounts
+
+      codes : codes_of new ≡ map code_of core.accounts
+      codes = codes_settled book (is_chosen book g.choice) ∙ sym (codes_in_core book core is)
+
+      balances_are : moved_between core.accounts later ≡ balance_rows book g.choice
+      unfolding balance_rows
+      balances_are =
+          moved_are book new core.accounts later (subst (AllByRecursion (Known book core.accounts)) (sym same)
+          (all_known book core.accounts core.accounts (all_found core.accounts (in_order book core is))
+          (balanced_core book core is))) balanced
+          ∙ (λ i. map (λ code. SetBalance code (leaving book g.choice code i))
+          (filter (λ code. not (int_eq (balance book code) (leaving book g.choice code i)))
+          ((same ∙ codes_in_core book core is) i)))
+
+      states_are_taken : map (λ (o : Order). SetState o.number (Settled mark.number)) orders
+          ≡ state_rows (Settled mark.number) (numbers_taken book g.choice)
+      states_are_taken =
+          states_are (Settled mark.number) orders
+          ∙ ap (λ os. state_rows (Settled mark.number) (map (λ (o : Order). o.number) os)) g.taken
+          ∙ ap (state_rows (Settled mark.number)) (sym (numbers book g.choice is.sound))
+
+      leads : Leads book rows new
+      leads = subst (λ changes. Leads book changes new) (λ i. sym states_are_taken i ++ AddMark mark ∷ sym balances_are i)
+          (leading book g.choice mark is.sound any is_mark)
+
+      pub settlement_is : IsSettlement book core orders mark later
+      settlement_is =
+          let adding = none_settling mark core.accounts later orders in
+          record {
+            prepared = record {
+              book = new;
+              step = steps book g.choice mark is.sound g.greatest any is_mark;
+              leads = leads;
+              added = starting new rows rows adding;
+              in_range = λ _. tt;
+              balanced = subst (AreBalanced new) (same_accounts (held_in book core) core rows refl)
+                  (balanced_after (held_in book core) rows new adding (balanced_core book core is) codes leads.balances);
+              repeated = λ k e. absurd (cc);
+              nothing = λ e. absurd (cc);
+            };
+            balanced = balanced;
+            same = same;
+          }

@@ -1,9 +1,7 @@
 -- Accounts while orders are settled one after another.
-use Rattle.std.proofs.Common.{◌≡◌, ℕ, ◌+◌, ◌*◌, ◌^◌, ◌≤◌, ◌<◌, pos, ◌+ℤ◌, ◌-ℤ◌, Bool, true, false, cond, List, []}
-use Rattle.std.proofs.Common.{◌∷◌, ◌++◌, map, not, length, get_or, drop, append_assoc, refl, sym, ap, subst, ◌∙◌, arith}
+use Rattle.std.proofs.Common.{◌≡◌, ℕ, ◌+◌, ◌*◌, ◌^◌, ◌≤◌, pos, ◌+ℤ◌, ◌-ℤ◌, Bool, true, false, cond, List, []}
+use Rattle.std.proofs.Common.{◌∷◌, ◌++◌, map, refl, sym, subst, arith}
 use Rattle.std.proofs.lemmas.Int.{ints}
-use Rattle.std.proofs.lemmas.List.{at_drop_more}
-use Rattle.std.specs.Ordering.{int_eq}
 use Rattle.std.specs.List.{AllByRecursion}
 use Rattle.std.specs.Str.{bytes_eq}
 use Rattle.rtgs_money.specs.declared.amount.TheConstants.Amount as Amount
@@ -16,7 +14,7 @@ use Rattle.rtgs_book.specs.Totals.{Within}
 use Rattle.rtgs_book.specs.declared.account.Account.{Account}
 use Rattle.rtgs_book.specs.declared.limits.TheConstants.{MOST_QUEUED, LARGEST_BALANCE}
 use Rattle.rtgs_records.specs.accounts.Accounts.{code_of, participant_in, after_order}
-use Rattle.rtgs_ledger.specs.Resolving.{AreSmall, after_orders, moved_accounts}
+use Rattle.rtgs_ledger.specs.Resolving.{AreSmall, after_orders}
 use Rattle.rtgs_book.specs.cores.Following.{AreBalanced}
 use Rattle.rtgs_lists.proofs.Lists.{all_weaker}
 use Rattle.rtgs_lists.proofs.Sums.{int_sum_by-append}
@@ -83,31 +81,3 @@ pub small_of : (book : Book) (xs : List Account) → AreBalanced book xs
     (map (λ (p : Participant). p.code) (map participant_in xs)) → AreSmall xs
 small_of book [] h small = tt
 small_of book (x ∷ xs) h small = (subst (Within LARGEST_BALANCE) (sym h.0) small.0, small_of book xs h.1 small.1)
-
--- ---- the accounts that move
-
-abbrev pub does_move : List Order → Account → Bool
-does_move orders a = not (int_eq a.balance (after_orders orders a).balance)
-
-moves_there : (orders : List Order) (a : Account) (rest : List Account) → does_move orders a ≡ true
-    → moved_accounts orders (a ∷ rest) ≡ after_orders orders a ∷ moved_accounts orders rest
-moves_there orders a rest e = rw e refl
-
-stays_there : (orders : List Order) (a : Account) (rest : List Account) → does_move orders a ≡ false
-    → moved_accounts orders (a ∷ rest) ≡ moved_accounts orders rest
-stays_there orders a rest e = rw e refl
-
-module _ (orders : List Order) (xs : List Account) (i : ℕ) (a : Account) (done : List Account) (less : i < length xs)
-    (here : a ≡ get_or xs i a) (so_far : done ++ moved_accounts orders (drop i xs) ≡ moved_accounts orders xs) where
-  next : done ++ moved_accounts orders (a ∷ drop (i + 1) xs) ≡ moved_accounts orders xs
-  next = ap (λ y. done ++ moved_accounts orders (y ∷ drop (i + 1) xs)) here
-      ∙ ap (λ ys. done ++ ys) (sym (at_drop_more (moved_accounts orders) xs i a less)) ∙ so_far
-
-  pub one_moves : does_move orders a ≡ true → (done ++ after_orders orders a ∷ [])
-      ++ moved_accounts orders (drop (i + 1) xs) ≡ moved_accounts orders xs
-  one_moves e = append_assoc done (after_orders orders a ∷ []) (moved_accounts orders (drop (i + 1) xs))
-      ∙ ap (λ ys. done ++ ys) (sym (moves_there orders a (drop (i + 1) xs) e)) ∙ next
-
-  pub one_stays : does_move orders a ≡ false → done ++ moved_accounts orders (drop (i + 1) xs)
-      ≡ moved_accounts orders xs
-  one_stays e = ap (λ ys. done ++ ys) (sym (stays_there orders a (drop (i + 1) xs) e)) ∙ next

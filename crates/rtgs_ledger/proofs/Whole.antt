@@ -27,11 +27,13 @@ use Rattle.rtgs_book.specs.Outcome.{is_done}
 use Rattle.rtgs_book.specs.Ranges.{Fits}
 use Rattle.rtgs_book.specs.Soundness.{IsSound}
 use Rattle.rtgs_book.specs.Step.{OwnStep}
+use Rattle.rtgs_book.specs.Lookup.{codes_of}
 use Rattle.rtgs_book.specs.declared.cores.cores.Core.{Core}
 use Rattle.rtgs_book.specs.cores.Cores.{account_of, core_of, IsCoreOf}
 use Rattle.rtgs_book.specs.cores.Following.{AreBalanced, core_after_row, core_after}
 use Rattle.rtgs_records.specs.declared.records.Records.{Records}
-use Rattle.rtgs_records.specs.accounts.Accounts.{AccountList, participant_in, with_account, with_balance, with_limit}
+use Rattle.rtgs_records.specs.accounts.Accounts.{AccountList, code_of, participant_in, with_account, with_balance}
+use Rattle.rtgs_records.specs.accounts.Accounts.{with_limit}
 use Rattle.rtgs_records.specs.Held as seen
 use Rattle.rtgs_ledger.specs.Kept as kept
 use Rattle.rtgs_records.specs.Records.{core_in, held_of as seen_of}
@@ -125,6 +127,23 @@ own_participants book (p ∷ ps) = ap (λ qs. p ∷ qs) (own_participants book p
 own_balances : (book : Book) (ps : List Participant) → AreBalanced book (map (account_of book) ps)
 own_balances book [] = tt
 own_balances book (p ∷ ps) = (refl, own_balances book ps)
+
+own_codes : (book : Book) (ps : List Participant) → map code_of (map (account_of book) ps)
+    ≡ map (λ (p : Participant). p.code) ps
+own_codes book [] = refl
+own_codes book (p ∷ ps) = ap (λ cs. p.code ∷ cs) (own_codes book ps)
+
+pub codes_in_core : (book : Book) (core : Core) → IsCoreOf book core → map code_of core.accounts ≡ codes_of book
+unfolding core_of codes_of
+codes_in_core book core is = ap (λ (c : Core). map code_of c.accounts) is.is ∙ own_codes book book.participants
+
+pub balanced_core : (book : Book) (core : Core) → IsCoreOf book core → AreBalanced book core.accounts
+unfolding core_of
+balanced_core book core is = subst (AreBalanced book) (sym (ap (λ (c : Core). c.accounts) is.is))
+    (own_balances book book.participants)
+
+abbrev pub held_in : Book → Core → Held
+held_in book core = record { content = book; accounts = core.accounts }
 
 -- what a ledger's records say of a book whose core they are
 pub record IsOf (book : Book) (r : Records) (core : Core) : Type 0 where

@@ -6,5 +6,7 @@ pub mod Freeing
 pub mod Keys
 pub mod Kept
 pub mod Kinds
+pub mod Limits
 pub mod Ordering
 pub mod Resolving
+pub mod Rooms

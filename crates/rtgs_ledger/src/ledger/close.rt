@@ -7,9 +7,9 @@ ghost use Rattle.rtgs_book.specs.declared.book.Book.{Book};
 ghost use Rattle.rtgs_book.specs.cores.Cores.{IsCoreOf};
 ghost use Rattle.rtgs_records.specs.accounts.Accounts.{code_of};
 ghost use Rattle.rtgs_ledger.specs.Closing.{IsClosable};
-ghost use Rattle.rtgs_records.specs.Held.{HasRoom};
 ghost use Rattle.rtgs_ledger.specs.Kept.{IsPreparedByItself, IsRefusedByItself};
 ghost use Rattle.rtgs_ledger.specs.Kinds.{CanAnswerByItself, is_of_the_store};
+ghost use Rattle.rtgs_ledger.specs.Rooms.{CanBeMade};
 
 use super::Ledger;
 use rtgs_book::{
@@ -23,18 +23,14 @@ use std::alloc::{AllocError, Global};
 impl Ledger {
     /// The day that was cut off is closed, where no queued orders can be settled together and nobody is below zero.
     /// What is queued is rejected.
-    pub(super) fn prepare_close_day(
-        &mut self,
-        date: BusinessDate,
-    ) -> Result<(Answer, Change), Refusal>
-        ensures core { self.new.core ≡ self.old.core }
-        ensures room { IfOk result (λ (answer, change). HasRoom self.new change) }
+    pub(super) fn decide_close_day(&self, date: BusinessDate) -> Result<(Answer, Change), Refusal>
+        ensures made { IfOk result (λ (answer, change). CanBeMade self.now.core change) }
         ensures answered { IfOk result (λ (answer, change). CanAnswerByItself (Command.CloseDay date) answer change) }
         ensures of_the_command { IfErr result (λ refusal. is_of_the_store refusal ≡ false) }
-        ensures prepared { (book : Book) → IsCoreOf book self.old.core
-            → IfOk result (λ (answer, change). IsPreparedByItself book self.old.core (Command.CloseDay date) answer
+        ensures prepared { (book : Book) → IsCoreOf book self.now.core
+            → IfOk result (λ (answer, change). IsPreparedByItself book self.now.core (Command.CloseDay date) answer
             change) }
-        ensures refused { (book : Book) → IsCoreOf book self.old.core
+        ensures refused { (book : Book) → IsCoreOf book self.now.core
             → IfErr result (IsRefusedByItself book (Command.CloseDay date)) }
     {
         laws::greatest_exists();
@@ -55,19 +51,18 @@ impl Ledger {
         if !orders.is_empty() {
             return Err(Refusal::Resolvable);
         }
-        self.prepare_closing(date)
+        self.decide_closing(date)
     }
 
     // The day is closed, where nobody is below zero, and what is queued is rejected. The greatest choice has no order.
-    fn prepare_closing(&mut self, date: BusinessDate) -> Result<(Answer, Change), Refusal>
-        ensures core { self.new.core ≡ self.old.core }
-        ensures room { IfOk result (λ (answer, change). HasRoom self.new change) }
+    fn decide_closing(&self, date: BusinessDate) -> Result<(Answer, Change), Refusal>
+        ensures made { IfOk result (λ (answer, change). CanBeMade self.now.core change) }
         ensures answered { IfOk result (λ (answer, change). CanAnswerByItself (Command.CloseDay date) answer change) }
         ensures of_the_command { IfErr result (λ refusal. is_of_the_store refusal ≡ false) }
-        ensures prepared { (book : Book) → IsCoreOf book self.old.core → IsClosable book date
-            → IfOk result (λ (answer, change). IsPreparedByItself book self.old.core (Command.CloseDay date) answer
+        ensures prepared { (book : Book) → IsCoreOf book self.now.core → IsClosable book date
+            → IfOk result (λ (answer, change). IsPreparedByItself book self.now.core (Command.CloseDay date) answer
             change) }
-        ensures refused { (book : Book) → IsCoreOf book self.old.core → IsClosable book date
+        ensures refused { (book : Book) → IsCoreOf book self.now.core → IsClosable book date
             → IfErr result (IsRefusedByItself book (Command.CloseDay date)) }
     {
         if let Some(account) = self.records.accounts.first_overdrawn() {

@@ -4,101 +4,65 @@ ghost use Rattle.rtgs_book.specs.declared.book.Book.{Book};
 ghost use Rattle.rtgs_book.specs.Books.{is_automatic};
 ghost use Rattle.rtgs_book.specs.Calm.{IsCalm};
 ghost use Rattle.rtgs_book.specs.Laws.{CommandFits};
-ghost use Rattle.rtgs_book.specs.Outcome.{is_done, resolution_of};
+ghost use Rattle.rtgs_book.specs.Outcome.{is_done};
 ghost use Rattle.rtgs_book.specs.Step.{may_free};
-ghost use Rattle.rtgs_book.specs.cores.Cores.{IsCoreOf, found_for};
-ghost use Rattle.rtgs_book.specs.cores.Following.{core_after};
-ghost use Rattle.rtgs_records.specs.Held.{HasRoom};
-ghost use Rattle.rtgs_ledger.specs.Following.{FreesOrders, SettlesOrders, Follows, IsNotFollowed};
-ghost use Rattle.rtgs_ledger.specs.Following.{day_after, has_moved, is_followed_by, joined, sets_no_balance};
+ghost use Rattle.rtgs_book.specs.cores.Cores.{IsCoreOf};
+ghost use Rattle.rtgs_ledger.specs.Following.{FreesOrders, day_after, is_followed_by, sets_no_balance};
 ghost use Rattle.rtgs_ledger.specs.Kept.{IsPrepared, IsPreparedByItself};
 ghost use Rattle.rtgs_ledger.specs.Kinds.{CanAnswer, CanAnswerByItself, is_of_the_store};
+ghost use Rattle.rtgs_ledger.specs.Rooms.{CanBeMade};
 
 use super::Ledger;
-use super::resolution::rows_of;
 use rtgs_book::cores::laws::cores_follow_changes;
 use rtgs_book::laws::greatest_exists;
-use rtgs_book::{
-    Account, Answer, Change, Command, Day, Found, Phase, Refusal, Resolution, RowChange, Rows,
-    WholeAnswer,
-};
+use rtgs_book::{Answer, Change, Command, Day, Phase, Refusal, RowChange, Rows, WholeAnswer};
 use rtgs_choices::laws::changes_join;
 use rtgs_laws::laws::{
-    new_credit_leaves_the_accounts, own_step_is_determined, own_step_keeps_ranges,
-    own_step_keeps_soundness, quiet_changes_leave_calm,
+    new_credit_leaves_the_accounts, own_step_keeps_ranges, own_step_keeps_soundness,
 };
-use rtgs_records::Accounts;
-use std::alloc::{AllocError, Global};
 
 impl Ledger {
-    /// The whole change, where a resolution follows this change of the command by itself. Where nothing can settle that
-    /// could not before the command, nothing is asked of the resolver: the book was calm, and so it is.
-    pub(super) fn prepare_following(
+    /// The whole change, where a resolution follows this change of the command by itself.
+    pub(super) fn decide_following(
         &self,
         command: &Command,
-        found: &Found,
         own: Answer,
         change: Change,
     ) -> Result<(WholeAnswer, Change), Refusal>
-        requires room { HasRoom self.now change }
+        requires made { CanBeMade self.now.core change }
         requires frees { FreesOrders change }
         requires answered { CanAnswerByItself command.now own change }
         requires followed { is_followed_by command.now own self.now.core.day change ≡ true }
-        ensures room { IfOk result (λ (answer, change). HasRoom self.now change) }
+        ensures made { IfOk result (λ (answer, change). CanBeMade self.now.core change) }
         ensures answered { IfOk result (λ (answer, change). CanAnswer command.now answer change) }
         ensures of_the_command { IfErr result (λ refusal. is_of_the_store refusal ≡ false) }
         ensures prepared { (book : Book) → IsCoreOf book self.now.core → IsCalm book
-            → found.now ≡ found_for book command.now → IsPreparedByItself book self.now.core command.now own change
+            → IsPreparedByItself book self.now.core command.now own change
             → IfOk result (λ (answer, change). IsPrepared book self.now.core command.now answer change) }
-        ensures refused { (book : Book) → IsCoreOf book self.now.core → found.now ≡ found_for book command.now
+        ensures refused { (book : Book) → IsCoreOf book self.now.core
             → IsPreparedByItself book self.now.core command.now own change
             → IfErr result (λ refusal. refusal ≡ Refusal.OutOfMemory) }
     {
         changes_join();
+        cores_follow_changes();
         greatest_exists();
         new_credit_leaves_the_accounts();
-        own_step_is_determined();
+        own_step_keeps_ranges();
         own_step_keeps_soundness();
-        quiet_changes_leave_calm();
         judge(command);
-        if !self.can_free(&change) {
-            return Ok((WholeAnswer { own, auto: None }, change));
-        }
         if !self.records.counts_marks() {
             return Err(Refusal::NumbersUsedUp);
         }
-        let (settled, rows, between) = self.follow(command, found)?;
-        let Some(auto) = resolution_of(&settled) else {
+        let between = self.after(&change)?;
+        let Some(settlement) = between.settlement()? else {
             return Ok((WholeAnswer { own, auto: None }, change));
         };
-        let whole = self.join(&change, rows, between)?;
-        let answer = WholeAnswer {
-            own,
-            auto: Some(auto),
-        };
-        Ok((answer, whole))
-    }
-
-    // What a resolution settles right after this command, and the ledger of the book in between.
-    fn follow(&self, command: &Command, found: &Found) -> Result<(Answer, Change, Ledger), Refusal>
-        ensures follows { (book : Book) → IsCoreOf book self.now.core → found.now ≡ found_for book command.now
-            → IfOk result (λ (settled, rows, between). Follows book command.now settled rows between.core) }
-        ensures room { IfOk result (λ (settled, rows, between). HasRoom between rows) }
-        ensures settles { IfOk result (λ (settled, rows, between). SettlesOrders rows) }
-        ensures answered { IfOk result (λ (settled, rows, between). CanAnswerByItself Command.Resolve settled rows) }
-        ensures of_the_command { IfErr result (λ refusal. is_of_the_store refusal ≡ false) }
-        ensures refused { (book : Book) → IsCoreOf book self.now.core → found.now ≡ found_for book command.now
-            → IfErr result (IsNotFollowed book command.now) }
-    {
-        own_step_keeps_soundness();
-        own_step_keeps_ranges();
-        cores_follow_changes();
-        judge(command);
-        let mut between = self.copy()?;
-        let (_, own) = between.prepare_own(command, found)?;
-        between.adopt(own);
-        let (settled, rows) = between.prepare_resolve()?;
-        Ok((settled, rows, between))
+        let mut rows = change.into_vec();
+        take_balances_out(&mut rows);
+        let settling = settlement.rows(self.alloc, &self.records.accounts)?;
+        rows.extend_from_slice(&settling)?;
+        let auto = Some(settlement.resolution());
+        Ok((WholeAnswer { own, auto }, Rows::from_vec(rows)))
     }
 
     /// Whether a resolution follows the command that has this answer and change by itself.
@@ -120,39 +84,13 @@ impl Ledger {
         }
         is_automatic(day)
     }
-
-    // The rows of both without their balances, and then the balances that are others after both.
-    fn join(&self, own: &Change, rows: Change, mut between: Ledger) -> Result<Change, AllocError>
-        requires { HasRoom between rows }
-        ensures { IfOk result (λ whole. whole ≡ joined own.now rows self.now.core.accounts
-            (core_after between.core rows).accounts) }
-    {
-        let mut whole = others_than_balances(self.alloc, own.as_slice())?;
-        let next = others_than_balances(self.alloc, rows.as_slice())?;
-        whole.extend_from_slice(&next)?;
-        between.adopt(rows);
-        let moved = moved_accounts(
-            self.alloc,
-            &self.records.accounts,
-            &between.records.accounts,
-        )?;
-        let balances = rows_of(self.alloc, moved.as_slice())?;
-        whole.extend_from_slice(&balances)?;
-        Ok(Rows::from_vec(whole))
-    }
 }
 
-// The rows that set no balance.
-fn others_than_balances(alloc: Global, rows: &[RowChange]) -> Result<Vec<RowChange>, AllocError>
-    ensures { IfOk result (λ others. others.items ≡ filter sets_no_balance rows.now) }
+// Takes out the rows that set a balance.
+fn take_balances_out(rows: &mut Vec<RowChange>)
+    ensures { rows.new.items ≡ filter sets_no_balance rows.old.items }
 {
-    let mut others = Vec::new(alloc);
-    for row in rows {
-        if sets_no_balance(row) {
-            others.push(*row)?;
-        }
-    }
-    Ok(others)
+    rows.retain(|row| sets_no_balance(row));
 }
 
 /// Whether a resolution follows commands on the day.
@@ -168,37 +106,6 @@ fn sets_no_balance(row: &RowChange) -> bool
     ensures { result ≡ sets_no_balance row.now }
 {
     !matches!(row, RowChange::SetBalance { .. })
-}
-
-// The accounts that have other balances than they had.
-fn moved_accounts(alloc: Global, old: &Accounts, new: &Accounts) -> Result<Vec<Account>, AllocError>
-    ensures { IfOk result (λ moved. moved.items ≡ filter (has_moved old.now.accounts) new.now.accounts) }
-{
-    new.as_slice()
-        .iter()
-        .copied()
-        .filter(|account| has_moved(old, account))
-        .collect(alloc)
-}
-
-// Whether an account that was there has another balance.
-fn has_moved(old: &Accounts, account: &Account) -> bool
-    ensures { result ≡ has_moved old.now.accounts account.now }
-{
-    match old.get(&account.participant.code) {
-        Some(before) => before.balance != account.balance,
-        None => false,
-    }
-}
-
-// What was resolved, by the answer to a resolution.
-fn resolution_of(settled: &Answer) -> Option<Resolution>
-    ensures { result ≡ resolution_of (Ok settled.now) }
-{
-    match *settled {
-        Answer::Resolved { mark, count, value } => Some(Resolution { mark, count, value }),
-        _ => None,
-    }
 }
 
 // Whether orders may settle after the command that could not before.
@@ -222,8 +129,8 @@ fn is_done(answer: &Answer) -> bool
     !matches!(answer, Answer::Repeated(_))
 }
 
-// The amounts of a command are in their ranges, since their types say so.
-fn judge(command: &Command)
+/// The amounts of a command are in their ranges, since their types say so.
+pub(super) fn judge(command: &Command)
     ensures { CommandFits command.now }
 {
     match command {

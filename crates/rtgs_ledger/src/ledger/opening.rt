@@ -4,10 +4,10 @@ ghost use Rattle.rtgs_book.specs.declared.order.Order.{Order};
 ghost use Rattle.rtgs_book.specs.Commands.{is_due};
 ghost use Rattle.rtgs_book.specs.declared.book.Book.{Book};
 ghost use Rattle.rtgs_book.specs.cores.Cores.{IsCoreOf};
-ghost use Rattle.rtgs_records.specs.Held.{HasRoom};
 ghost use Rattle.rtgs_ledger.specs.Following.{FreesOrders};
 ghost use Rattle.rtgs_ledger.specs.Kept.{IsPreparedByItself, IsRefusedByItself};
 ghost use Rattle.rtgs_ledger.specs.Kinds.{CanAnswerByItself, is_of_the_store};
+ghost use Rattle.rtgs_ledger.specs.Rooms.{CanBeMade};
 
 use super::Ledger;
 use rtgs_book::{
@@ -20,17 +20,16 @@ use std::alloc::{AllocError, Global};
 impl Ledger {
     /// The day is opened, where the desk is closed and the date is later than the last one. The held orders that are
     /// due enter their queues.
-    pub(super) fn prepare_open_day(&mut self, new_day: &NewDay) -> Result<(Answer, Change), Refusal>
-        ensures core { self.new.core ≡ self.old.core }
-        ensures room { IfOk result (λ (answer, change). HasRoom self.new change) }
+    pub(super) fn decide_open_day(&self, new_day: &NewDay) -> Result<(Answer, Change), Refusal>
+        ensures made { IfOk result (λ (answer, change). CanBeMade self.now.core change) }
         ensures frees { IfOk result (λ (answer, change). FreesOrders change) }
         ensures answered { IfOk result (λ (answer, change). CanAnswerByItself (Command.OpenDay new_day.now) answer
             change) }
         ensures of_the_command { IfErr result (λ refusal. is_of_the_store refusal ≡ false) }
-        ensures prepared { (book : Book) → IsCoreOf book self.old.core
-            → IfOk result (λ (answer, change). IsPreparedByItself book self.old.core
+        ensures prepared { (book : Book) → IsCoreOf book self.now.core
+            → IfOk result (λ (answer, change). IsPreparedByItself book self.now.core
             (Command.OpenDay new_day.now) answer change) }
-        ensures refused { (book : Book) → IsCoreOf book self.old.core
+        ensures refused { (book : Book) → IsCoreOf book self.now.core
             → IfErr result (IsRefusedByItself book (Command.OpenDay new_day.now)) }
     {
         if self.records.is_open_on(new_day) {

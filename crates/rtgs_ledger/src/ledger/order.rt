@@ -13,10 +13,10 @@ ghost use Rattle.rtgs_records.specs.accounts.Accounts.{is_of};
 ghost use Rattle.rtgs_book.specs.declared.book.Book.{Book};
 ghost use Rattle.rtgs_book.specs.Lookup.{order_named};
 ghost use Rattle.rtgs_book.specs.cores.Cores.{IsCoreOf};
-ghost use Rattle.rtgs_records.specs.Held.{HasRoom};
 ghost use Rattle.rtgs_ledger.specs.Following.{FreesOrders};
 ghost use Rattle.rtgs_ledger.specs.Kept.{IsPreparedByItself, IsRefusedByItself};
 ghost use Rattle.rtgs_ledger.specs.Kinds.{CanAnswerByItself, is_of_the_store};
+ghost use Rattle.rtgs_ledger.specs.Rooms.{CanBeMade};
 ghost use Rattle.rtgs_ledger.specs.Ordering.{IsTaken, IsDueRefused, is_too_early, waiting_answer};
 
 use super::Ledger;
@@ -32,23 +32,22 @@ use std::alloc::{AllocError, Global};
 
 impl Ledger {
     /// An order is settled at once, joins its sender's queue, or is held until its due date.
-    pub(super) fn prepare_order(
-        &mut self,
+    pub(super) fn decide_order(
+        &self,
         sender: Code,
         order: &NewOrder,
         found: Option<Order>,
     ) -> Result<(Answer, Change), Refusal>
-        ensures core { self.new.core ≡ self.old.core }
-        ensures room { IfOk result (λ (answer, change). HasRoom self.new change) }
+        ensures made { IfOk result (λ (answer, change). CanBeMade self.now.core change) }
         ensures frees { IfOk result (λ (answer, change). FreesOrders change) }
         ensures answered { IfOk result (λ (answer, change). CanAnswerByItself (Command.Order sender order.now) answer
             change) }
         ensures of_the_command { IfErr result (λ refusal. is_of_the_store refusal ≡ false) }
-        ensures prepared { (book : Book) → IsCoreOf book self.old.core
+        ensures prepared { (book : Book) → IsCoreOf book self.now.core
             → found ≡ order_named book sender order.now.reference
-            → IfOk result (λ (answer, change). IsPreparedByItself book self.old.core
+            → IfOk result (λ (answer, change). IsPreparedByItself book self.now.core
             (Command.Order sender order.now) answer change) }
-        ensures refused { (book : Book) → IsCoreOf book self.old.core
+        ensures refused { (book : Book) → IsCoreOf book self.now.core
             → found ≡ order_named book sender order.now.reference
             → IfErr result (IsRefusedByItself book (Command.Order sender order.now)) }
     {
@@ -81,38 +80,37 @@ impl Ledger {
         let order_date = date_of(&order.due, date);
         let taken = self.records.next_order(sender, order, order_date);
         if settles_now(&self.records, &sending, order) {
-            return self.prepare_settled(&taken, &sending, &receiving);
+            return self.decide_settled(&taken, &sending, &receiving);
         }
         if self.records.orders.count(&sender) >= LONGEST_QUEUE {
             return Err(Refusal::QueueFull);
         }
-        self.prepare_waiting(taken)
+        self.decide_waiting(taken)
     }
 
     // The order is settled, under a mark of its own.
-    fn prepare_settled(
-        &mut self,
+    fn decide_settled(
+        &self,
         order: &Order,
         sending: &Account,
         receiving: &Account,
     ) -> Result<(Answer, Change), Refusal>
-        requires number { order.now.number ≡ self.old.core.next_order }
-        requires few { self.old.core.next_order ≤ LARGEST_NUMBER }
-        ensures core { self.new.core ≡ self.old.core }
-        ensures room { IfOk result (λ (answer, change). HasRoom self.new change) }
+        requires number { order.now.number ≡ self.now.core.next_order }
+        requires few { self.now.core.next_order ≤ LARGEST_NUMBER }
+        ensures made { IfOk result (λ (answer, change). CanBeMade self.now.core change) }
         ensures frees { IfOk result (λ (answer, change). FreesOrders change) }
         ensures answered { IfOk result (λ (answer, change). CanAnswerByItself
             (Command.Order order.now.sender (as_sent order.now))
             answer change) }
         ensures of_the_command { IfErr result (λ refusal. is_of_the_store refusal ≡ false) }
-        ensures prepared { (book : Book) → IsCoreOf book self.old.core → IsTaken book order.now
+        ensures prepared { (book : Book) → IsCoreOf book self.now.core → IsTaken book order.now
             → order.now.due ≡ None → settles_at_once book order.now.sender order.now.amount ≡ true
-            → find (is_of order.now.sender) self.old.core.accounts ≡ Some sending.now
-            → find (is_of order.now.receiver) self.old.core.accounts ≡ Some receiving.now
-            → IfOk result (λ (answer, change). IsPreparedByItself book self.old.core
+            → find (is_of order.now.sender) self.now.core.accounts ≡ Some sending.now
+            → find (is_of order.now.receiver) self.now.core.accounts ≡ Some receiving.now
+            → IfOk result (λ (answer, change). IsPreparedByItself book self.now.core
             (Command.Order order.now.sender (as_sent order.now))
             answer change) }
-        ensures refused { (book : Book) → IsCoreOf book self.old.core → IsTaken book order.now
+        ensures refused { (book : Book) → IsCoreOf book self.now.core → IsTaken book order.now
             → IfErr result (IsRefusedByItself book (Command.Order order.now.sender (as_sent order.now))) }
     {
         laws::balances_are_small();
@@ -130,19 +128,18 @@ impl Ledger {
         Ok((answer, Rows::from_vec(rows)))
     }
 
-    // The order joins its sender's queue, or is held. The room in which a held order enters its queue is made here.
-    fn prepare_waiting(&mut self, order: Order) -> Result<(Answer, Change), Refusal>
-        requires number { order.number ≡ self.old.core.next_order }
-        requires few { self.old.core.next_order ≤ LARGEST_NUMBER }
-        ensures core { self.new.core ≡ self.old.core }
-        ensures room { IfOk result (λ (answer, change). HasRoom self.new change) }
+    // The order joins its sender's queue, or is held.
+    fn decide_waiting(&self, order: Order) -> Result<(Answer, Change), Refusal>
+        requires number { order.number ≡ self.now.core.next_order }
+        requires few { self.now.core.next_order ≤ LARGEST_NUMBER }
+        ensures made { IfOk result (λ (answer, change). CanBeMade self.now.core change) }
         ensures frees { IfOk result (λ (answer, change). FreesOrders change) }
         ensures answered { IfOk result (λ (answer, change). CanAnswerByItself
             (Command.Order order.sender (as_sent order)) answer change) }
         ensures of_the_command { IfErr result (λ refusal. is_of_the_store refusal ≡ false) }
-        ensures prepared { (book : Book) → IsCoreOf book self.old.core → IsTaken book order
+        ensures prepared { (book : Book) → IsCoreOf book self.now.core → IsTaken book order
             → settles_now book order.sender (as_sent order) ≡ false
-            → IfOk result (λ (answer, change). IsPreparedByItself book self.old.core
+            → IfOk result (λ (answer, change). IsPreparedByItself book self.now.core
             (Command.Order order.sender (as_sent order)) answer change) }
         ensures refused { (book : Book) → IsTaken book order → IfErr result (IsRefusedByItself book
             (Command.Order order.sender (as_sent order))) }
@@ -150,7 +147,6 @@ impl Ledger {
         queues_are_of_the_waiting();
         let place = self.records.orders.queue(&order.sender).len() as u64 + 1;
         let rows = vec![in self.alloc; RowChange::AddOrder(order)]?;
-        self.records.orders.reserve(order.sender, order.state)?;
         Ok((waiting_answer(&order, place), Rows::from_vec(rows)))
     }
 }

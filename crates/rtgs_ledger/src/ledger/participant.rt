@@ -2,9 +2,9 @@
 ghost use Rattle.std.specs.Prelude.{◌≡◌, IfOk, IfErr, false};
 ghost use Rattle.rtgs_book.specs.declared.book.Book.{Book};
 ghost use Rattle.rtgs_book.specs.cores.Cores.{IsCoreOf};
-ghost use Rattle.rtgs_records.specs.Held.{HasRoom};
 ghost use Rattle.rtgs_ledger.specs.Kept.{IsPreparedByItself, IsRefusedByItself};
 ghost use Rattle.rtgs_ledger.specs.Kinds.{CanAnswerByItself, is_of_the_store};
+ghost use Rattle.rtgs_ledger.specs.Rooms.{CanBeMade};
 
 use super::Ledger;
 use rtgs_book::{
@@ -14,21 +14,20 @@ use rtgs_money::{Code, Credit, KeyDigest, Name};
 
 impl Ledger {
     /// A participant is added, in code order.
-    pub(super) fn prepare_add(
-        &mut self,
+    pub(super) fn decide_add(
+        &self,
         code: Code,
         name: Name,
         key: KeyDigest,
     ) -> Result<(Answer, Change), Refusal>
-        ensures core { self.new.core ≡ self.old.core }
-        ensures room { IfOk result (λ (answer, change). HasRoom self.new change) }
+        ensures made { IfOk result (λ (answer, change). CanBeMade self.now.core change) }
         ensures answered { IfOk result (λ (answer, change). CanAnswerByItself (Command.Add code name key) answer
             change) }
         ensures of_the_command { IfErr result (λ refusal. is_of_the_store refusal ≡ false) }
-        ensures prepared { (book : Book) → IsCoreOf book self.old.core
-            → IfOk result (λ (answer, change). IsPreparedByItself book self.old.core
+        ensures prepared { (book : Book) → IsCoreOf book self.now.core
+            → IfOk result (λ (answer, change). IsPreparedByItself book self.now.core
             (Command.Add code name key) answer change) }
-        ensures refused { (book : Book) → IsCoreOf book self.old.core
+        ensures refused { (book : Book) → IsCoreOf book self.now.core
             → IfErr result (IsRefusedByItself book (Command.Add code name key)) }
     {
         if let Some(found) = self.records.accounts.get(&code) {
@@ -50,7 +49,6 @@ impl Ledger {
             credit: Credit::NONE,
         };
         let rows = vec![in self.alloc; RowChange::AddParticipant(participant)]?;
-        self.records.accounts.reserve()?;
         Ok((Answer::Added, Rows::from_vec(rows)))
     }
 }

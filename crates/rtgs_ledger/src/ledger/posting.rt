@@ -3,10 +3,10 @@ ghost use Rattle.std.specs.Prelude.{◌≡◌, IfOk, IfErr, false};
 ghost use Rattle.rtgs_book.specs.declared.book.Book.{Book};
 ghost use Rattle.rtgs_book.specs.Lookup.{posting_named};
 ghost use Rattle.rtgs_book.specs.cores.Cores.{IsCoreOf};
-ghost use Rattle.rtgs_records.specs.Held.{HasRoom};
 ghost use Rattle.rtgs_ledger.specs.Following.{FreesOrders};
 ghost use Rattle.rtgs_ledger.specs.Kept.{IsPreparedByItself, IsRefusedByItself};
 ghost use Rattle.rtgs_ledger.specs.Kinds.{CanAnswerByItself, is_of_the_store};
+ghost use Rattle.rtgs_ledger.specs.Rooms.{CanBeMade};
 
 use super::Ledger;
 use rtgs_book::{
@@ -17,23 +17,22 @@ use rtgs_records::accounts::sums::moved;
 
 impl Ledger {
     /// A posting is added, with the next number.
-    pub(super) fn prepare_post(
-        &mut self,
+    pub(super) fn decide_post(
+        &self,
         code: Code,
         reference: Reference,
         cents: PostingAmount,
         found: Option<Posting>,
     ) -> Result<(Answer, Change), Refusal>
-        ensures core { self.new.core ≡ self.old.core }
-        ensures room { IfOk result (λ (answer, change). HasRoom self.new change) }
+        ensures made { IfOk result (λ (answer, change). CanBeMade self.now.core change) }
         ensures frees { IfOk result (λ (answer, change). FreesOrders change) }
         ensures answered { IfOk result (λ (answer, change). CanAnswerByItself
             (Command.Post code reference cents) answer change) }
         ensures of_the_command { IfErr result (λ refusal. is_of_the_store refusal ≡ false) }
-        ensures prepared { (book : Book) → IsCoreOf book self.old.core → found ≡ posting_named book reference
-            → IfOk result (λ (answer, change). IsPreparedByItself book self.old.core
+        ensures prepared { (book : Book) → IsCoreOf book self.now.core → found ≡ posting_named book reference
+            → IfOk result (λ (answer, change). IsPreparedByItself book self.now.core
             (Command.Post code reference cents) answer change) }
-        ensures refused { (book : Book) → IsCoreOf book self.old.core → found ≡ posting_named book reference
+        ensures refused { (book : Book) → IsCoreOf book self.now.core → found ≡ posting_named book reference
             → IfErr result (IsRefusedByItself book (Command.Post code reference cents)) }
     {
         let Some(account) = self.records.accounts.get(&code) else {

@@ -1,5 +1,5 @@
 //! What the desk reads.
-ghost use Rattle.std.specs.Prelude.{◌≡◌, map, IfOk, IfSome, slice_get};
+ghost use Rattle.std.specs.Prelude.{◌≡◌, map, take, IfOk, IfSome, slice_get};
 ghost use Rattle.std.specs.Option.{option_map};
 ghost use Rattle.rtgs_book.specs.declared.book.Book.{Book};
 ghost use Rattle.rtgs_book.specs.Balance.{balance};
@@ -54,14 +54,22 @@ impl Ledger {
             → IfOk result (λ orders. orders.items ≡ queue book sender.now) }
     {
         queues_are_of_the_waiting();
-        let numbers = self.records.orders.queue(sender);
+        self.beginning(sender, self.records.orders.queue(sender).len())
+    }
+
+    /// So many of the queued orders of the sender, the first of them; all, where there are no more.
+    pub(super) fn beginning(&self, sender: &Code, most: usize) -> Result<Vec<Order>, AllocError>
+        ensures { IfOk result (λ orders. orders.items ≡ take most (queued_among self.now.core.waiting sender.now)) }
+    {
         // Names the type of due dates for the borrow checker, which finds it nowhere else in this function.
         let _no_date: Option<BusinessDate> = None;
-        let mut queue = Vec::with_capacity(self.alloc, numbers.len())?;
-        for number in numbers {
-            queue.push_reserved(self.records.orders.numbered(*number).unwrap());
+        let numbers = self.records.orders.queue(sender);
+        let count = most.min(numbers.len());
+        let mut orders = Vec::with_capacity(self.alloc, count)?;
+        for number in &numbers[..count] {
+            orders.push_reserved(self.records.orders.numbered(*number).unwrap());
         }
-        Ok(queue)
+        Ok(orders)
     }
 
     /// The code of the participant at this place, in the order of the codes; past the last there is none.

@@ -1,6 +1,6 @@
 //! Resolving a gridlock.
-ghost use Rattle.std.specs.Prelude.{◌≡◌, ◌≤◌, ◌↔◌, List, map, length, Some, IfOk, IfErr, IsTrue, false};
-ghost use Rattle.std.specs.List.{AllByRecursion};
+ghost use Rattle.std.specs.Prelude.{◌≡◌, ◌≤◌, ◌<◌, ◌^◌, ◌↔◌, List, map, filter, length, None, IfOk, IfErr, IfSome};
+ghost use Rattle.std.specs.Prelude.{IsTrue, false, []};
 ghost use Rattle.rtgs_book.specs.declared.limits.TheConstants.{MOST_QUEUED};
 ghost use Rattle.rtgs_book.specs.declared.account.Account.{Account as AccountSpec};
 ghost use Rattle.rtgs_book.specs.declared.order.Order.{Order};
@@ -8,40 +8,69 @@ ghost use Rattle.rtgs_records.specs.accounts.Accounts.{code_of};
 ghost use Rattle.rtgs_book.specs.declared.book.Book.{Book};
 ghost use Rattle.rtgs_book.specs.Calm.{IsCalm};
 ghost use Rattle.rtgs_book.specs.cores.Cores.{IsCoreOf};
-ghost use Rattle.rtgs_records.specs.Held.{HasRoom};
-ghost use Rattle.rtgs_ledger.specs.Following.{SettlesOrders};
 ghost use Rattle.rtgs_ledger.specs.Kept.{IsPreparedByItself, IsRefusedByItself};
 ghost use Rattle.rtgs_ledger.specs.Kinds.{CanAnswerByItself, is_of_the_store};
-ghost use Rattle.rtgs_choices.specs.Settling.{IsOfBalance};
-ghost use Rattle.rtgs_ledger.specs.Resolving.{AreGreatest, AreSmall, after_orders, moved_accounts, moved_rows};
+ghost use Rattle.rtgs_ledger.specs.Resolving.{AreSmall, IsSettlement, after_orders, has_moved, settling};
+ghost use Rattle.rtgs_ledger.specs.Rooms.{CanBeMade};
 
 use super::Ledger;
 use super::follow_up::is_automatic;
 use rtgs_book::{
-    Account, Answer, Change, Command, Mark, Order, OrderState, Refusal, RowChange, Rows, laws,
+    Account, Answer, Change, Command, Mark, Order, OrderState, Refusal, Resolution, RowChange,
+    Rows, laws,
 };
 use rtgs_choices::laws::{chosen_numbers, rows_settle, taken_are_chosen};
 use rtgs_gridlock::OutOfMemory;
-use rtgs_money::BusinessDate;
 use rtgs_records::Accounts;
 use std::alloc::{AllocError, Global};
+
+/// What a resolution settles: these orders together, under the mark. The accounts are as they leave them.
+#[derive(Debug, Drop)]
+pub(super) struct Settlement {
+    orders: Vec<Order>,
+    mark: Mark,
+    accounts: Accounts,
+}
 
 impl Ledger {
     /// The orders of the greatest choice are settled together, under one mark: a gridlock is resolved, as in Bech and
     /// Soramäki 2001. Where nothing is chosen, nothing changes.
-    pub(super) fn prepare_resolve(&mut self) -> Result<(Answer, Change), Refusal>
-        ensures core { self.new.core ≡ self.old.core }
-        ensures room { IfOk result (λ (answer, change). HasRoom self.new change) }
+    pub(super) fn decide_resolve(&self) -> Result<(Answer, Change), Refusal>
+        ensures made { IfOk result (λ (answer, change). CanBeMade self.now.core change) }
         ensures answered { IfOk result (λ (answer, change). CanAnswerByItself Command.Resolve answer change) }
-        ensures settles { IfOk result (λ (answer, change). SettlesOrders change) }
         ensures of_the_command { IfErr result (λ refusal. is_of_the_store refusal ≡ false) }
-        ensures prepared { (book : Book) → IsCoreOf book self.old.core
-            → IfOk result (λ (answer, change). IsPreparedByItself book self.old.core Command.Resolve answer change) }
-        ensures refused { (book : Book) → IsCoreOf book self.old.core
+        ensures prepared { (book : Book) → IsCoreOf book self.now.core
+            → IfOk result (λ (answer, change). IsPreparedByItself book self.now.core Command.Resolve answer change) }
+        ensures refused { (book : Book) → IsCoreOf book self.now.core
             → IfErr result (IsRefusedByItself book Command.Resolve) }
     {
+        let Some(settlement) = self.settlement()? else {
+            return Ok((Answer::Nothing, Rows::new(self.alloc)));
+        };
+        let rows = settlement.rows(self.alloc, &self.records.accounts)?;
+        let Resolution { mark, count, value } = settlement.resolution();
+        Ok((
+            Answer::Resolved { mark, count, value },
+            Rows::from_vec(rows),
+        ))
+    }
+
+    /// What a resolution settles now, if anything.
+    pub(super) fn settlement(&self) -> Result<Option<Settlement>, Refusal>
+        ensures some { (book : Book) → IsCoreOf book self.now.core → IfOk result (λ found. IfSome found
+            (λ s. IsSettlement book self.now.core s.orders.items s.mark s.accounts.accounts)) }
+        ensures none { (book : Book) → IsCoreOf book self.now.core → IfOk result (λ found. found ≡ None
+            → IsPreparedByItself book self.now.core Command.Resolve Answer.Nothing []) }
+        ensures marks { IfOk result (λ found. IfSome found (λ s. self.now.core.next_mark < 2 ^ 63)) }
+        ensures of_the_command { IfErr result (λ refusal. is_of_the_store refusal ≡ false) }
+        ensures refused { (book : Book) → IsCoreOf book self.now.core
+            → IfErr result (IsRefusedByItself book Command.Resolve) }
+    {
+        laws::balances_are_small();
         laws::greatest_exists();
+        laws::settled_balances();
         chosen_numbers();
+        rows_settle();
         taken_are_chosen();
         let Some(date) = self.records.business_date() else {
             return Err(Refusal::WrongPhase);
@@ -50,9 +79,18 @@ impl Ledger {
             return Err(Refusal::OutOfMemory);
         };
         if orders.is_empty() {
-            return Ok((Answer::Nothing, Rows::new(self.alloc)));
+            return Ok(None);
         }
-        self.prepare_settlement(&orders, date)
+        if !self.records.counts_marks() {
+            return Err(Refusal::NumbersUsedUp);
+        }
+        let accounts = self.accounts_after(&orders)?;
+        let mark = self.records.mark_of(&orders, date);
+        Ok(Some(Settlement {
+            orders,
+            mark,
+            accounts,
+        }))
     }
 
     /// Whether the day is not automatic, or nothing that is queued could be settled.
@@ -69,70 +107,9 @@ impl Ledger {
         Ok(orders.is_empty())
     }
 
-    // The orders are settled together, under one mark.
-    fn prepare_settlement(
-        &mut self,
-        orders: &[Order],
-        date: BusinessDate,
-    ) -> Result<(Answer, Change), Refusal>
-        requires some { 1 ≤ length orders.now }
-        ensures core { self.new.core ≡ self.old.core }
-        ensures room { IfOk result (λ (answer, change). HasRoom self.new change) }
-        ensures answered { IfOk result (λ (answer, change). CanAnswerByItself Command.Resolve answer change) }
-        ensures settles { IfOk result (λ (answer, change). SettlesOrders change) }
-        ensures of_the_command { IfErr result (λ refusal. is_of_the_store refusal ≡ false) }
-        ensures prepared { (book : Book) → IsCoreOf book self.old.core → AreGreatest book orders.now
-            → book.day.date ≡ Some date
-            → IfOk result (λ (answer, change). IsPreparedByItself book self.old.core Command.Resolve answer change) }
-        ensures refused { (book : Book) → IsCoreOf book self.old.core
-            → IfErr result (λ refusal. refusal ≡ Refusal.OutOfMemory) }
-    {
-        if !self.records.counts_marks() {
-            return Err(Refusal::NumbersUsedUp);
-        }
-        laws::balances_are_small();
-        chosen_numbers();
-        taken_are_chosen();
-        rows_settle();
-        let mark = self.records.mark_of(orders, date);
-        let mut rows = state_rows(self.alloc, orders, &mark)?;
-        let mark_row = vec![in self.alloc; RowChange::AddMark(mark)]?;
-        rows.extend_from_slice(&mark_row)?;
-        let balance_rows = self.balance_rows(orders)?;
-        rows.extend_from_slice(&balance_rows)?;
-        Ok((resolved(&mark), Rows::from_vec(rows)))
-    }
-
-    // The rows of the balances that the orders move, in code order.
-    fn balance_rows(&self, orders: &[Order]) -> Result<Vec<RowChange>, AllocError>
-        ensures balances { IfOk result (λ rows. AllByRecursion IsOfBalance rows.items) }
-        ensures rows { AreSmall self.now.core.accounts → length orders.now ≤ MOST_QUEUED
-            → IfOk result (λ rows. rows.items ≡ moved_rows orders.now self.now.core.accounts) }
-    {
-        let moved = self.moved_accounts(orders)?;
-        rows_of(self.alloc, moved.as_slice())
-    }
-
-    // The accounts whose balances the orders move, with the new balances.
-    fn moved_accounts(&self, orders: &[Order]) -> Result<Vec<Account>, AllocError>
-        ensures { AreSmall self.now.core.accounts → length orders.now ≤ MOST_QUEUED
-            → IfOk result (λ moved. moved.items ≡ moved_accounts orders.now self.now.core.accounts) }
-    {
-        let settled = self.accounts_after(orders)?;
-        let settled = settled.as_slice();
-        let mut moved = Vec::new(self.alloc);
-        for (index, account) in self.records.accounts.as_slice().iter().enumerate() {
-            if account.balance != settled[index].balance {
-                moved.push(settled[index])?;
-            }
-        }
-        Ok(moved)
-    }
-
     // The accounts as the orders leave them.
     fn accounts_after(&self, orders: &[Order]) -> Result<Accounts, AllocError>
-        ensures count { IfOk result (λ settled. length settled.accounts ≡ length self.now.core.accounts) }
-        ensures accounts { AreSmall self.now.core.accounts → length orders.now ≤ MOST_QUEUED
+        ensures { AreSmall self.now.core.accounts → length orders.now ≤ MOST_QUEUED
             → IfOk result (λ settled. settled.accounts ≡ map (after_orders orders.now) self.now.core.accounts) }
     {
         let mut settled = self.records.accounts.copy()?;
@@ -143,28 +120,38 @@ impl Ledger {
     }
 }
 
-/// The rows that set these balances.
-pub(super) fn rows_of(alloc: Global, accounts: &[Account]) -> Result<Vec<RowChange>, AllocError>
-    ensures { IfOk result (λ rows. rows.items ≡ map (λ (a : AccountSpec). RowChange.SetBalance (code_of a) a.balance)
-        accounts.now) }
-{
-    accounts
-        .iter()
-        .map(|account| RowChange::SetBalance {
-            code: account.participant.code,
-            balance: account.balance,
-        })
-        .collect(alloc)
-}
+impl Settlement {
+    /// The rows that settle it: the states of the orders, the mark, and the balances that are not what they were before
+    /// all that is to be changed, in code order.
+    pub(super) fn rows(
+        &self,
+        alloc: Global,
+        before: &Accounts,
+    ) -> Result<Vec<RowChange>, AllocError>
+        ensures { IfOk result (λ rows. rows.items
+            ≡ settling self.now.orders.items self.now.mark before.now.accounts self.now.accounts.accounts) }
+    {
+        let mut rows = state_rows(alloc, &self.orders, &self.mark)?;
+        rows.push(RowChange::AddMark(self.mark))?;
+        let moved = moved_accounts(alloc, before, &self.accounts)?;
+        let balances = balance_rows(alloc, &moved)?;
+        rows.extend_from_slice(&balances)?;
+        Ok(rows)
+    }
 
-// The answer to a resolution that made this mark.
-fn resolved(mark: &Mark) -> Answer
-    ensures { result ≡ Answer.Resolved mark.now.number mark.now.count mark.now.value }
-{
-    Answer::Resolved {
-        mark: mark.number,
-        count: mark.count,
-        value: mark.value,
+    /// What it comes to.
+    pub(super) fn resolution(&self) -> Resolution
+        ensures { result ≡ record {
+          mark = self.now.mark.number;
+          count = self.now.mark.count;
+          value = self.now.mark.value;
+        } }
+    {
+        Resolution {
+            mark: self.mark.number,
+            count: self.mark.count,
+            value: self.mark.value,
+        }
     }
 }
 
@@ -181,4 +168,39 @@ fn state_rows(alloc: Global, orders: &[Order], mark: &Mark) -> Result<Vec<RowCha
             state: OrderState::Settled(number),
         })
         .collect(alloc)
+}
+
+// The rows that set these balances.
+fn balance_rows(alloc: Global, accounts: &[Account]) -> Result<Vec<RowChange>, AllocError>
+    ensures { IfOk result (λ rows. rows.items ≡ map (λ (a : AccountSpec). RowChange.SetBalance (code_of a) a.balance)
+        accounts.now) }
+{
+    accounts
+        .iter()
+        .map(|account| RowChange::SetBalance {
+            code: account.participant.code,
+            balance: account.balance,
+        })
+        .collect(alloc)
+}
+
+// The accounts that have other balances than they had.
+fn moved_accounts(alloc: Global, old: &Accounts, new: &Accounts) -> Result<Vec<Account>, AllocError>
+    ensures { IfOk result (λ moved. moved.items ≡ filter (has_moved old.now.accounts) new.now.accounts) }
+{
+    new.as_slice()
+        .iter()
+        .copied()
+        .filter(|account| has_moved(old, account))
+        .collect(alloc)
+}
+
+// Whether an account that was there has another balance.
+fn has_moved(old: &Accounts, account: &Account) -> bool
+    ensures { result ≡ has_moved old.now.accounts account.now }
+{
+    match old.get(&account.participant.code) {
+        Some(before) => before.balance != account.balance,
+        None => false,
+    }
 }

@@ -49,8 +49,8 @@ impl Ledger {
         Ok(Vec::from_slice(self.alloc, workspace.lengths())?)
     }
 
-    // The balance and floor of each account.
-    fn positions(&self) -> Result<Positions, OutOfMemory>
+    /// The balance and floor of each account.
+    pub(super) fn positions(&self) -> Result<Positions, OutOfMemory>
         ensures { IfOk result (λ positions. positions ≡ positions_in self.now.core) }
     {
         let mut positions = Positions::new(self.alloc);
@@ -63,8 +63,8 @@ impl Ledger {
         Ok(positions)
     }
 
-    // The queue of each account.
-    fn payments(&self) -> Result<Queues, OutOfMemory>
+    /// The queue of each account.
+    pub(super) fn payments(&self) -> Result<Queues, OutOfMemory>
         ensures { IfOk result (λ queues. queues ≡ queues_in self.now.core) }
     {
         let mut queues = Queues::new(self.alloc);
@@ -80,11 +80,10 @@ impl Ledger {
         ensures { IfOk result (λ payments. payments.items ≡ payments_in self.now.core sender.now) }
     {
         let queue = self.queue(sender)?;
-        let mut payments = Vec::with_capacity(self.alloc, queue.len())?;
-        for order in &queue {
-            payments.push_reserved(self.payment_of(order));
-        }
-        Ok(payments)
+        queue
+            .iter()
+            .map(|order| self.payment_of(order))
+            .collect(self.alloc)
     }
 
     // The order as a payment to the index of its receiver's account.
@@ -105,16 +104,16 @@ impl Ledger {
     {
         let mut orders = Vec::new(self.alloc);
         for (index, account) in self.records.accounts.as_slice().iter().enumerate() {
-            let mut queue = self.queue(&account.participant.code)?;
-            queue.truncate(lengths.get(index).copied().unwrap_or(0));
-            orders.extend_from_slice(&queue)?;
+            let length = lengths.get(index).copied().unwrap_or(0);
+            let beginning = self.beginning(&account.participant.code, length)?;
+            orders.extend_from_slice(&beginning)?;
         }
         Ok(orders)
     }
 }
 
-// Whether the resolver can be given this: balances at their floors or above, payments to accounts, and not too many.
-fn can_resolve(positions: &Positions, queues: &Queues) -> bool
+/// Whether the resolver can be given this: balances at their floors or above, payments to accounts, and not too many.
+pub(super) fn can_resolve(positions: &Positions, queues: &Queues) -> bool
     ensures { IsTrue result ↔ CanResolve positions.now queues.now }
 {
     positions.are_floored()

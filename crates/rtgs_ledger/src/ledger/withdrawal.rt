@@ -3,10 +3,10 @@ ghost use Rattle.std.specs.Prelude.{◌≡◌, IfOk, IfErr, false};
 ghost use Rattle.rtgs_book.specs.declared.book.Book.{Book};
 ghost use Rattle.rtgs_book.specs.Lookup.{order_named};
 ghost use Rattle.rtgs_book.specs.cores.Cores.{IsCoreOf};
-ghost use Rattle.rtgs_records.specs.Held.{HasRoom};
 ghost use Rattle.rtgs_ledger.specs.Following.{FreesOrders};
 ghost use Rattle.rtgs_ledger.specs.Kept.{IsPreparedByItself, IsRefusedByItself};
 ghost use Rattle.rtgs_ledger.specs.Kinds.{CanAnswerByItself, is_of_the_store};
+ghost use Rattle.rtgs_ledger.specs.Rooms.{CanBeMade};
 
 use super::Ledger;
 use rtgs_book::{
@@ -17,22 +17,21 @@ use rtgs_records::queues::laws::numbers_lead_to_orders;
 
 impl Ledger {
     /// An order that is queued or held is taken back by its sender.
-    pub(super) fn prepare_withdraw(
-        &mut self,
+    pub(super) fn decide_withdraw(
+        &self,
         sender: Code,
         reference: Reference,
         found: Option<Order>,
     ) -> Result<(Answer, Change), Refusal>
-        ensures core { self.new.core ≡ self.old.core }
-        ensures room { IfOk result (λ (answer, change). HasRoom self.new change) }
+        ensures made { IfOk result (λ (answer, change). CanBeMade self.now.core change) }
         ensures frees { IfOk result (λ (answer, change). FreesOrders change) }
         ensures answered { IfOk result (λ (answer, change). CanAnswerByItself
             (Command.Withdraw sender reference) answer change) }
         ensures of_the_command { IfErr result (λ refusal. is_of_the_store refusal ≡ false) }
-        ensures prepared { (book : Book) → IsCoreOf book self.old.core → found ≡ order_named book sender reference
-            → IfOk result (λ (answer, change). IsPreparedByItself book self.old.core
+        ensures prepared { (book : Book) → IsCoreOf book self.now.core → found ≡ order_named book sender reference
+            → IfOk result (λ (answer, change). IsPreparedByItself book self.now.core
             (Command.Withdraw sender reference) answer change) }
-        ensures refused { (book : Book) → IsCoreOf book self.old.core → found ≡ order_named book sender reference
+        ensures refused { (book : Book) → IsCoreOf book self.now.core → found ≡ order_named book sender reference
             → IfErr result (IsRefusedByItself book (Command.Withdraw sender reference)) }
     {
         let Some(_) = self.records.accounts.get(&sender) else {

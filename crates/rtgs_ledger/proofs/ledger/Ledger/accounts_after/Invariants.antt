@@ -6,9 +6,6 @@ use Rattle.rtgs_ledger.proofs.ledger.Ledger.accounts_after.Given as goal
 
 -- the first orders are settled, where the balances were small and the orders are few
 abbrev pub invariant-loop-order : goal.invariant-loop-order
-invariant-loop-order l = record {
-  count : length l.settled.accounts ≡ length l.self.core.accounts;
-  done : AreSmall l.self.core.accounts → length l.orders ≤ MOST_QUEUED
-      → (l.settled.accounts ≡ map (after_orders (take l.order-index l.orders)) l.self.core.accounts)
-      × AreNear l.order-index l.settled.accounts;
-}
+invariant-loop-order l = AreSmall l.self.core.accounts → length l.orders ≤ MOST_QUEUED
+    → (l.settled.accounts ≡ map (after_orders (take l.order-index l.orders)) l.self.core.accounts)
+    × AreNear l.order-index l.settled.accounts

@@ -1,53 +1,16 @@
-use Rattle.std.proofs.Common.{◌≡◌, ◌∙◌, ◌&&◌, Ok, ap, sym, subst, inl}
-use Rattle.std.specs.Prelude.{IfOk}
-use Rattle.std.proofs.lemmas.Result.{IfErr-weaker, err_from_is_err_and}
-use Rattle.rtgs_book.specs.declared.refusal.Refusal.TheVariants.{OutOfMemory}
-use Rattle.rtgs_book.specs.declared.day.Day.{Day}
-use Rattle.rtgs_book.specs.Books.{is_automatic}
-use Rattle.rtgs_book.specs.Outcome.{is_done}
-use Rattle.rtgs_book.specs.Step.{may_free}
-use Rattle.rtgs_book.specs.declared.cores.cores.Core.{Core}
-use Rattle.rtgs_book.specs.cores.Cores.{IsCoreOf}
-use Rattle.rtgs_ledger.specs.Following.{day_after}
-use Rattle.rtgs_ledger.specs.Kept.{IsCommandRefused, IsPrepared, IsPreparedByItself}
-use Rattle.rtgs_ledger.proofs.Following.{all_parts, day_left, prepared_alone, refused_alone}
+use Rattle.std.proofs.Common.{inl, refl}
+use Rattle.std.proofs.lemmas.Result.{err_from_is_err_and}
+use Rattle.rtgs_ledger.proofs.Following.{would_act}
 use Rattle.rtgs_ledger.proofs.ledger.Ledger.prepare.Goals as goal
 
-pub returns-then-not-is_followed-clause-prepared : goal.returns-then-not-is_followed-clause-prepared
-returns-then-not-is_followed-clause-prepared c book is calm found =
-    let p = c.in_ok-own.ensures.prepared book is found in
-    let core = c.in_ok-own.ensures.core in
-    prepared_alone book c.args.self.now.core c.args.command.now c.in_ok-own.own c.in_ok-own.change p
-    (ap (λ (d : Day). may_free c.args.command.now && is_done (Ok c.in_ok-own.own) && is_automatic d)
-    (day_left book p.book c.args.self.now.core c.in_ok-own.change is p.leads
-    ∙ ap (λ (k : Core). day_after k.day c.in_ok-own.change) (sym core))
-    ∙ sym c.is_followed.ensures ∙ c.if-not-is_followed.true)
-
-pub returns-in_err-own-clause-refused : goal.returns-in_err-own-clause-refused
-returns-in_err-own-clause-refused c book is calm found =
-    let passed_on = err_from_is_err_and c.from_residual.result c.from_residual.ensures.1 in
-    rw (passed_on.1, passed_on.2) (refused_alone book c.args.command.now _ (c.in_err-own.ensures.refused book is found))
-
-pub returns-clause-prepared : goal.returns-clause-prepared
-returns-clause-prepared c book is calm found =
-    let core = c.in_ok-own.ensures.core in
-    let p = c.in_ok-own.ensures.prepared book is found in
-    subst (λ (k : Core). IfOk c.prepare_following.result
-    (λ (answer, change). IsPrepared book k c.args.command.now answer change)) core
-    (c.prepare_following.ensures.prepared book (subst (IsCoreOf book) (sym core) is) calm found
-    (subst (λ (k : Core). IsPreparedByItself book k c.args.command.now c.in_ok-own.own c.in_ok-own.change) (sym core)
-    p))
-
--- what follows lacks memory after a command that would act
-pub returns-clause-refused : goal.returns-clause-refused
-returns-clause-refused c book is calm found =
-    let core = c.in_ok-own.ensures.core in
-    let p = c.in_ok-own.ensures.prepared book is found in
-    let acted = (all_parts (may_free c.args.command.now) (is_done (Ok c.in_ok-own.own))
-    (is_automatic (day_after c.prepare_own.new.self.core.day c.in_ok-own.change))
-    (sym c.is_followed.ensures ∙ c.if-not-is_followed.false)).1 in
-    IfErr-weaker c.prepare_following.result (λ refusal. refusal ≡ OutOfMemory)
-    (IsCommandRefused book c.args.command.now) (λ refusal e. inl (e, λ _. (c.in_ok-own.own, p.book, p.step, acted)))
-    (c.prepare_following.ensures.refused book (subst (IsCoreOf book) (sym core) is) found
-    (subst (λ (k : Core). IsPreparedByItself book k c.args.command.now c.in_ok-own.own c.in_ok-own.change) (sym core)
-    p))
+-- room lacks for the change of a command that would act
+pub returns-in_err-make_room-clause-refused : goal.returns-in_err-make_room-clause-refused
+returns-in_err-make_room-clause-refused c book is calm found =
+    let passed = err_from_is_err_and c.from_residual-in_err-make_room.result
+    c.from_residual-in_err-make_room.ensures.1 in
+    let p = c.in_ok-answer.ensures.prepared book is calm found in
+    rw (passed.1, passed.2) (inl (
+      refl,
+      λ _. would_act book p.book c.args.command.now c.in_ok-answer.answer
+          c.in_ok-answer.change p.step c.in_ok-answer.ensures.answered.1 c.in_err-make_room.ensures.some,
+    ))
