@@ -7,10 +7,12 @@ ghost use Rattle.rtgs_http_bodies.specs.Answers.{resolution_data, unsettled_repe
 ghost use Rattle.rtgs_http_bodies.specs.replies.Bodies.{whole};
 ghost use Rattle.rtgs_http_bodies.specs.replies.Messages.{json_message};
 
+use crate::members::{begun_by, with_signed, with_text, with_whole};
 use crate::replies::Reply;
 use http::StatusCode;
 use rtgs_book::{Answer, Known, OrderState, Resolution, Standing, WholeAnswer};
-use serde_json::{Value, json};
+use rtgs_money::{BusinessDate, Cents};
+use serde_json::{Map, Value};
 use std::alloc::{AllocError, Global};
 
 /// The reply that tells this answer, and what was resolved after the command, if anything was. The only error is lack
@@ -52,10 +54,10 @@ fn with_auto(alloc: Global, value: Value, auto: &Resolution) -> Result<Value, Al
 fn resolution_value(alloc: Global, auto: &Resolution) -> Result<Value, AllocError>
     ensures { IfOk result (λ value. view value ≡ resolution_data auto.now) }
 {
-    let count = auto.count;
-    let mark = auto.mark;
-    let value = auto.value.cents();
-    json!(in alloc; {"count": count, "mark": mark, "value": value})
+    let members = with_whole(alloc, Map::new(alloc), "count", auto.count)?;
+    let members = with_whole(alloc, members, "mark", auto.mark)?;
+    let members = with_signed(alloc, members, "value", auto.value.cents())?;
+    Ok(Value::Object(members))
 }
 
 // The JSON value of the command's own answer.
@@ -67,32 +69,62 @@ fn own_value(alloc: Global, answer: Answer) -> Result<Value, AllocError>
         Answer::CreditSet => word_value(alloc, "credit set"),
         Answer::Posted { number } => numbered_value(alloc, "posted", number),
         Answer::Opened => word_value(alloc, "opened"),
-        Answer::Settled { number, mark } => {
-            let word = Standing::Settled.word();
-            json!(in alloc; {"answer": word, "mark": mark, "number": number})
-        }
-        Answer::Queued { number, place } => {
-            let word = Standing::Queued.word();
-            json!(in alloc; {"answer": word, "number": number, "place": place})
-        }
-        Answer::Held { number, due } => {
-            let word = Standing::Held.word();
-            let due = due.text();
-            let due = due.as_str();
-            json!(in alloc; {"answer": word, "due": due, "number": number})
-        }
+        Answer::Settled { number, mark } => settled_value(alloc, number, mark),
+        Answer::Queued { number, place } => queued_value(alloc, number, place),
+        Answer::Held { number, due } => held_value(alloc, number, due),
         Answer::Withdrawn { number } => numbered_value(alloc, Standing::Withdrawn.word(), number),
-        Answer::Resolved { mark, count, value } => {
-            let value = value.cents();
-            json!(in alloc; {"answer": "resolved", "count": count, "mark": mark, "value": value})
-        }
+        Answer::Resolved { mark, count, value } => resolved_value(alloc, mark, count, value),
         Answer::Nothing => word_value(alloc, "nothing"),
         Answer::CutOffDone => word_value(alloc, "cut off"),
-        Answer::Closed { rejected } => {
-            json!(in alloc; {"answer": "closed", "rejected": rejected})
-        }
+        Answer::Closed { rejected } => closed_value(alloc, rejected),
         Answer::Repeated(known) => repeated_value(alloc, known),
     }
+}
+
+fn settled_value(alloc: Global, number: u64, mark: u64) -> Result<Value, AllocError>
+    ensures { IfOk result (λ value. view value ≡ own_data None (Answer.Settled number mark)) }
+{
+    let members = begun_by(alloc, "answer", Standing::Settled.word())?;
+    let members = with_whole(alloc, members, "mark", mark)?;
+    let members = with_whole(alloc, members, "number", number)?;
+    Ok(Value::Object(members))
+}
+
+fn queued_value(alloc: Global, number: u64, place: u64) -> Result<Value, AllocError>
+    ensures { IfOk result (λ value. view value ≡ own_data None (Answer.Queued number place)) }
+{
+    let members = begun_by(alloc, "answer", Standing::Queued.word())?;
+    let members = with_whole(alloc, members, "number", number)?;
+    let members = with_whole(alloc, members, "place", place)?;
+    Ok(Value::Object(members))
+}
+
+fn held_value(alloc: Global, number: u64, due: BusinessDate) -> Result<Value, AllocError>
+    ensures { IfOk result (λ value. view value ≡ own_data None (Answer.Held number due)) }
+{
+    let due = due.text();
+    let members = begun_by(alloc, "answer", Standing::Held.word())?;
+    let members = with_text(alloc, members, "due", due.as_str())?;
+    let members = with_whole(alloc, members, "number", number)?;
+    Ok(Value::Object(members))
+}
+
+fn resolved_value(alloc: Global, mark: u64, count: u64, value: Cents) -> Result<Value, AllocError>
+    ensures { IfOk result (λ told. view told ≡ own_data None (Answer.Resolved mark count value)) }
+{
+    let members = begun_by(alloc, "answer", "resolved")?;
+    let members = with_whole(alloc, members, "count", count)?;
+    let members = with_whole(alloc, members, "mark", mark)?;
+    let members = with_signed(alloc, members, "value", value.cents())?;
+    Ok(Value::Object(members))
+}
+
+fn closed_value(alloc: Global, rejected: u64) -> Result<Value, AllocError>
+    ensures { IfOk result (λ value. view value ≡ own_data None (Answer.Closed rejected)) }
+{
+    let members = begun_by(alloc, "answer", "closed")?;
+    let members = with_whole(alloc, members, "rejected", rejected)?;
+    Ok(Value::Object(members))
 }
 
 // The JSON value of a command that was done before.
@@ -111,10 +143,7 @@ fn repeated_order_value(alloc: Global, number: u64, state: OrderState) -> Result
     ensures { IfOk result (λ value. view value ≡ repeated_order None number state) }
 {
     match state {
-        OrderState::Settled(mark) => {
-            let state = Standing::Settled.word();
-            json!(in alloc; {"answer": "repeated", "mark": mark, "number": number, "state": state})
-        }
+        OrderState::Settled(mark) => settled_repeat_value(alloc, number, mark),
         OrderState::Queued => unsettled_value(alloc, number, Standing::Queued),
         OrderState::Held => unsettled_value(alloc, number, Standing::Held),
         OrderState::Withdrawn => unsettled_value(alloc, number, Standing::Withdrawn),
@@ -122,24 +151,38 @@ fn repeated_order_value(alloc: Global, number: u64, state: OrderState) -> Result
     }
 }
 
+fn settled_repeat_value(alloc: Global, number: u64, mark: u64) -> Result<Value, AllocError>
+    ensures { IfOk result (λ value. view value ≡ repeated_order None number (OrderState.Settled mark)) }
+{
+    let members = begun_by(alloc, "answer", "repeated")?;
+    let members = with_whole(alloc, members, "mark", mark)?;
+    let members = with_whole(alloc, members, "number", number)?;
+    let members = with_text(alloc, members, "state", Standing::Settled.word())?;
+    Ok(Value::Object(members))
+}
+
 // An answer that is a word alone.
 fn word_value(alloc: Global, word: &str) -> Result<Value, AllocError>
     ensures { IfOk result (λ value. view value ≡ answer_object None word.now no_members) }
 {
-    json!(in alloc; {"answer": word})
+    Ok(Value::Object(begun_by(alloc, "answer", word)?))
 }
 
 fn numbered_value(alloc: Global, word: &str, number: u64) -> Result<Value, AllocError>
     ensures { IfOk result (λ value. view value ≡ answer_object None word.now
         (member (codes "number") (whole number) no_members)) }
 {
-    json!(in alloc; {"answer": word, "number": number})
+    let members = begun_by(alloc, "answer", word)?;
+    let members = with_whole(alloc, members, "number", number)?;
+    Ok(Value::Object(members))
 }
 
 // An order that was taken before and has not settled: it stands so.
 fn unsettled_value(alloc: Global, number: u64, standing: Standing) -> Result<Value, AllocError>
     ensures { IfOk result (λ value. view value ≡ unsettled_repeat None number standing) }
 {
-    let state = standing.word();
-    json!(in alloc; {"answer": "repeated", "number": number, "state": state})
+    let members = begun_by(alloc, "answer", "repeated")?;
+    let members = with_whole(alloc, members, "number", number)?;
+    let members = with_text(alloc, members, "state", standing.word())?;
+    Ok(Value::Object(members))
 }

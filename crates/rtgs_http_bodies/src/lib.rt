@@ -6,6 +6,7 @@ mod answered;
 mod batch;
 pub mod desks;
 pub mod laws;
+mod members;
 mod order;
 mod queue;
 mod refused;

@@ -7,11 +7,12 @@ ghost use Rattle.rtgs_http_bodies.specs.Readings.{order_data, settled_order, und
 ghost use Rattle.rtgs_http_bodies.specs.replies.Messages.{json_message};
 ghost use Rattle.rtgs_money.specs.Date.{date_text};
 
+use crate::members::{with_text, with_whole};
 use crate::replies::{ContentType, Reply};
 use http::StatusCode;
 use rtgs_book::{Order, OrderState, Standing};
 use rtgs_money::BusinessDate;
-use serde_json::{Value, json};
+use serde_json::{Map, Value};
 use std::alloc::{AllocError, Global};
 
 /// The reply that tells this order to its sender. The only error is lack of memory.
@@ -75,41 +76,27 @@ fn undated_value(alloc: Global, order: &Order) -> Result<Value, AllocError>
 fn settled_value(alloc: Global, order: &Order, mark: u64) -> Result<Value, AllocError>
     ensures { IfOk result (λ value. view value ≡ settled_order (undated order.now) mark) }
 {
-    let amount = order.amount.cents();
     let date = order.date.text();
-    let date = date.as_str();
-    let number = order.number;
-    let reference = order.reference.as_str();
-    let state = Standing::Settled.word();
-    let to = order.receiver.as_str();
-    json!(in alloc; {
-        "amount": amount,
-        "date": date,
-        "mark": mark,
-        "number": number,
-        "reference": reference,
-        "state": state,
-        "to": to
-    })
+    let members = with_whole(alloc, Map::new(alloc), "amount", order.amount.cents())?;
+    let members = with_text(alloc, members, "date", date.as_str())?;
+    let members = with_whole(alloc, members, "mark", mark)?;
+    let members = with_whole(alloc, members, "number", order.number)?;
+    let members = with_text(alloc, members, "reference", order.reference.as_str())?;
+    let members = with_text(alloc, members, "state", Standing::Settled.word())?;
+    let members = with_text(alloc, members, "to", order.receiver.as_str())?;
+    Ok(Value::Object(members))
 }
 
 // The JSON value of an order that stands so and has not settled, but for its due date.
 fn unsettled_value(alloc: Global, order: &Order, standing: Standing) -> Result<Value, AllocError>
     ensures { IfOk result (λ value. view value ≡ unsettled_order (undated order.now) standing) }
 {
-    let amount = order.amount.cents();
     let date = order.date.text();
-    let date = date.as_str();
-    let number = order.number;
-    let reference = order.reference.as_str();
-    let state = standing.word();
-    let to = order.receiver.as_str();
-    json!(in alloc; {
-        "amount": amount,
-        "date": date,
-        "number": number,
-        "reference": reference,
-        "state": state,
-        "to": to
-    })
+    let members = with_whole(alloc, Map::new(alloc), "amount", order.amount.cents())?;
+    let members = with_text(alloc, members, "date", date.as_str())?;
+    let members = with_whole(alloc, members, "number", order.number)?;
+    let members = with_text(alloc, members, "reference", order.reference.as_str())?;
+    let members = with_text(alloc, members, "state", standing.word())?;
+    let members = with_text(alloc, members, "to", order.receiver.as_str())?;
+    Ok(Value::Object(members))
 }

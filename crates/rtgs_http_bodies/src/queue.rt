@@ -5,10 +5,11 @@ ghost use Rattle.serde_json.specs.Written.{compact_text};
 ghost use Rattle.rtgs_http_bodies.specs.Readings.{queue_data, queued_data, queued_from};
 ghost use Rattle.rtgs_http_bodies.specs.replies.Messages.{json_message};
 
+use crate::members::{with_text, with_value, with_whole};
 use crate::replies::{ContentType, Reply};
 use http::StatusCode;
 use rtgs_book::Order;
-use serde_json::{Value, json};
+use serde_json::{Map, Value};
 use std::alloc::{AllocError, Global};
 
 /// The reply that tells a participant its queue, in order. The only error is lack of memory.
@@ -32,7 +33,8 @@ fn queue_value(alloc: Global, orders: &[Order]) -> Result<Value, AllocError>
     ensures { IfOk result (λ value. view value ≡ queue_data orders.now) }
 {
     let items = queued_values(alloc, orders)?;
-    json!(in alloc; {"orders": items})
+    let members = with_value(alloc, Map::new(alloc), "orders", Value::Array(items))?;
+    Ok(Value::Object(members))
 }
 
 // The JSON value of each order of a queue, in order.
@@ -51,15 +53,10 @@ fn queued_values(alloc: Global, orders: &[Order]) -> Result<Vec<Value>, AllocErr
 fn queued_value(alloc: Global, order: &Order, place: usize) -> Result<Value, AllocError>
     ensures { IfOk result (λ value. view value ≡ queued_data place order.now) }
 {
-    let amount = order.amount.cents();
-    let number = order.number;
-    let reference = order.reference.as_str();
-    let to = order.receiver.as_str();
-    json!(in alloc; {
-        "amount": amount,
-        "number": number,
-        "place": place,
-        "reference": reference,
-        "to": to
-    })
+    let members = with_whole(alloc, Map::new(alloc), "amount", order.amount.cents())?;
+    let members = with_whole(alloc, members, "number", order.number)?;
+    let members = with_whole(alloc, members, "place", place as u64)?;
+    let members = with_text(alloc, members, "reference", order.reference.as_str())?;
+    let members = with_text(alloc, members, "to", order.receiver.as_str())?;
+    Ok(Value::Object(members))
 }

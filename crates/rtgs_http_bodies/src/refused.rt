@@ -7,13 +7,14 @@ ghost use Rattle.rtgs_refusals.specs.declared.RefusalKind.{RefusalKind};
 ghost use Rattle.rtgs_http_bodies.specs.Refusals.{refused_message, batch_refused_message, overdrawn_data, bad_row_data};
 ghost use Rattle.rtgs_http_bodies.specs.replies.Kinds.{kind_status, kind_message};
 
+use crate::members::{with_text, with_whole};
 use crate::replies::Reply;
 use http::StatusCode;
 use rtgs_book::Refusal;
 use rtgs_money::Code;
 use rtgs_order_files::BatchFault;
 use rtgs_refusals::RefusalKind;
-use serde_json::{Value, json};
+use serde_json::{Map, Value};
 use std::alloc::{AllocError, Global};
 
 /// The reply that tells a kind of refusal by its number and its name. The only error is lack of memory. That memory was
@@ -75,17 +76,21 @@ fn status_with(number: u16) -> StatusCode
 fn overdrawn_value(alloc: Global, first: &Code, count: u64) -> Result<Value, AllocError>
     ensures { IfOk result (λ value. view value ≡ overdrawn_data first.now count) }
 {
-    let code = RefusalKind::Overdrawn.number();
-    let first = first.as_str();
-    let name = RefusalKind::Overdrawn.name();
-    json!(in alloc; {"code": code, "count": count, "first": first, "name": name})
+    let kind = RefusalKind::Overdrawn;
+    let members = with_whole(alloc, Map::new(alloc), "code", u64::from(kind.number()))?;
+    let members = with_whole(alloc, members, "count", count)?;
+    let members = with_text(alloc, members, "first", first.as_str())?;
+    let members = with_text(alloc, members, "name", kind.name())?;
+    Ok(Value::Object(members))
 }
 
 // The JSON value of a bad row.
 fn bad_row_value(alloc: Global, row: u64) -> Result<Value, AllocError>
     ensures { IfOk result (λ value. view value ≡ bad_row_data row) }
 {
-    let code = RefusalKind::BadRow.number();
-    let name = RefusalKind::BadRow.name();
-    json!(in alloc; {"code": code, "name": name, "row": row})
+    let kind = RefusalKind::BadRow;
+    let members = with_whole(alloc, Map::new(alloc), "code", u64::from(kind.number()))?;
+    let members = with_text(alloc, members, "name", kind.name())?;
+    let members = with_whole(alloc, members, "row", row)?;
+    Ok(Value::Object(members))
 }

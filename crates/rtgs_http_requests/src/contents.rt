@@ -4,6 +4,7 @@ ghost use Rattle.serde_json.specs.Find.{as_integer, as_number};
 ghost use Rattle.serde_json.specs.View.{view};
 ghost use Rattle.rtgs_http_requests.specs.Contents.{HasPosting, HasCredit, HasDate, HasChoice, HasOpening, HasNothing};
 
+use crate::members::{are_all_taken, text_under, value_under, whole_under};
 use serde_json::Value;
 
 /// The code, the reference and the cents of a posting.
@@ -14,16 +15,13 @@ pub fn posting_of(value: &Value) -> Option<(&str, &str, i128)>
         → ¬ HasPosting (code, reference, cents) (view value.now) }
 {
     let mut members = value.as_object()?.iter();
-    let (first, cents) = members.next()?;
-    let (second, code) = members.next()?;
-    let (third, reference) = members.next()?;
-    if members.next().is_some() {
+    let cents = whole_of(value_under(&mut members, "cents")?)?;
+    let code = text_under(&mut members, "code")?;
+    let reference = text_under(&mut members, "reference")?;
+    if !are_all_taken(&mut members) {
         return None;
     }
-    if first.as_str() != "cents" || second.as_str() != "code" || third.as_str() != "reference" {
-        return None;
-    }
-    Some((code.as_str()?, reference.as_str()?, whole_of(cents)?))
+    Some((code, reference, cents))
 }
 
 /// The code and the limit of a credit.
@@ -32,12 +30,12 @@ pub fn credit_of(value: &Value) -> Option<(&str, u64)>
     ensures none { result ≡ None → (code : List ℕ) (credit : ℕ) → ¬ HasCredit (code, credit) (view value.now) }
 {
     let mut members = value.as_object()?.iter();
-    let (first, code) = members.next()?;
-    let (second, credit) = members.next()?;
-    if members.next().is_some() || first.as_str() != "code" || second.as_str() != "credit" {
+    let code = text_under(&mut members, "code")?;
+    let credit = whole_under(&mut members, "credit")?;
+    if !are_all_taken(&mut members) {
         return None;
     }
-    Some((code.as_str()?, credit.as_u64()?))
+    Some((code, credit))
 }
 
 /// The date of a day.
@@ -72,12 +70,12 @@ fn chosen_opening_of(value: &Value) -> Option<(&str, bool)>
         → ¬ HasChoice (date, automatic) (view value.now) }
 {
     let mut members = value.as_object()?.iter();
-    let (first, automatic) = members.next()?;
-    let (second, date) = members.next()?;
-    if members.next().is_some() || first.as_str() != "automatic" || second.as_str() != "date" {
+    let automatic = value_under(&mut members, "automatic")?.as_bool()?;
+    let date = text_under(&mut members, "date")?;
+    if !are_all_taken(&mut members) {
         return None;
     }
-    Some((date.as_str()?, automatic.as_bool()?))
+    Some((date, automatic))
 }
 
 /// Whether the value is the object with no members.

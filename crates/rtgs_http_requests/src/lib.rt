@@ -12,6 +12,7 @@ pub mod heads;
 mod http_fault;
 pub mod laws;
 mod meaning;
+mod members;
 mod operator_requests;
 mod order_body;
 mod plan;

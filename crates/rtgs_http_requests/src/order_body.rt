@@ -1,9 +1,12 @@
 //! The body of an order: its members, and the order that they spell.
-ghost use Rattle.std.specs.Prelude.{◌≡◌, None, IfSome, option_map};
-ghost use Rattle.serde_json.specs.View.{view};
+ghost use Rattle.std.specs.Prelude.{◌≡◌, ◌≢◌, ℕ, List, Option, None, IfSome, codes, option_map};
+ghost use Rattle.serde_json.specs.Data.{Members, member, string};
+ghost use Rattle.serde_json.specs.View.{members_view, view};
 ghost use Rattle.rtgs_http_requests.specs.OrderBody.{OrderValues, HasOrder, SpellsOrder, SpellsDue};
+ghost use Rattle.rtgs_http_requests.specs.OrderBody.{perhaps_text};
 
 use crate::http_fault::HttpFault;
+use crate::members::{Left, are_all_taken, text_under, whole_under};
 use crate::spelling::spell_date;
 use rtgs_book::NewOrder;
 use rtgs_money::{Amount, BusinessDate, Code, Lexical, Reference};
@@ -41,24 +44,16 @@ impl<'a> OrderBody<'a> {
         ensures none { result ≡ None → (values : OrderValues) → ¬ HasOrder values (view value.now) }
     {
         let mut members = value.as_object()?.iter();
-        let (first, amount) = members.next()?;
-        let (second, given) = members.next()?;
-        let (due, (third, reference)) = if second.as_str() == "due" {
-            (Some(given.as_str()?), members.next()?)
-        } else {
-            (None, (second, given))
-        };
-        let (last, to) = members.next()?;
-        if members.next().is_some() || first.as_str() != "amount" {
-            return None;
-        }
-        if third.as_str() != "reference" || last.as_str() != "to" {
+        let amount = whole_under(&mut members, "amount")?;
+        let (due, reference) = due_and_reference(&mut members)?;
+        let to = text_under(&mut members, "to")?;
+        if !are_all_taken(&mut members) {
             return None;
         }
         Some(OrderBody {
-            reference: reference.as_str()?,
-            to: to.as_str()?,
-            amount: amount.as_u64()?,
+            reference,
+            to,
+            amount,
             due,
         })
     }
@@ -78,6 +73,26 @@ impl<'a> OrderBody<'a> {
             due,
         })
     }
+}
+
+// The due date, if there is one, and the reference, which are the next members.
+fn due_and_reference<'a>(members: &mut Left<'a>) -> Option<(Option<&'a str>, &'a str)>
+    ensures some { IfSome result (λ (due, reference). members_view members.old
+        ≡ perhaps_text (codes "due") (option_map (λ text. text.now) due)
+        (member (codes "reference") (string reference.now) (members_view members.new))) }
+    ensures none { result ≡ None → (due : Option (List ℕ)) (reference : List ℕ) (rest : Members)
+        → members_view members.old
+        ≢ perhaps_text (codes "due") due (member (codes "reference") (string reference) rest) }
+{
+    let (key, given) = members.next()?;
+    let given = given.as_str()?;
+    if key.as_str() == "reference" {
+        return Some((None, given));
+    }
+    if key.as_str() != "due" {
+        return None;
+    }
+    Some((Some(given), text_under(members, "reference")?))
 }
 
 /// The due date that this text is, and none where there is no text.

@@ -6,11 +6,12 @@ ghost use Rattle.serde_json.specs.Written.{compact_text};
 ghost use Rattle.rtgs_http_bodies.specs.desks.Accounts.{account_data, account_with, phase_name};
 ghost use Rattle.rtgs_http_bodies.specs.replies.Messages.{json_message};
 
+use crate::members::{with_signed, with_text, with_whole};
 use crate::replies::{ContentType, Reply};
 use http::StatusCode;
 use rtgs_book::{AccountReading, Phase};
 use rtgs_money::BusinessDate;
-use serde_json::{Value, json};
+use serde_json::{Map, Value};
 use std::alloc::{AllocError, Global};
 
 /// The reply that tells a participant its account. The only error is lack of memory.
@@ -71,24 +72,18 @@ fn dated_value(
     requires { reading.now.day.date ≡ Some date }
     ensures { IfOk result (λ value. view value ≡ account_with queued_value reading.now) }
 {
-    let balance = reading.balance.cents();
-    let code = reading.participant.code.as_str();
-    let credit = reading.participant.credit.cents();
+    let participant = &reading.participant;
     let date = date.text();
-    let date = date.as_str();
-    let name = reading.participant.name.as_str();
     let phase = phase_name(reading.day.phase);
-    let queued = reading.queued;
-    json!(in alloc; {
-        "balance": balance,
-        "code": code,
-        "credit": credit,
-        "date": date,
-        "name": name,
-        "phase": phase,
-        "queued": queued,
-        "queued_value": queued_value
-    })
+    let members = with_signed(alloc, Map::new(alloc), "balance", reading.balance.cents())?;
+    let members = with_text(alloc, members, "code", participant.code.as_str())?;
+    let members = with_whole(alloc, members, "credit", participant.credit.cents())?;
+    let members = with_text(alloc, members, "date", date.as_str())?;
+    let members = with_text(alloc, members, "name", participant.name.as_str())?;
+    let members = with_text(alloc, members, "phase", phase)?;
+    let members = with_whole(alloc, members, "queued", reading.queued as u64)?;
+    let members = with_signed(alloc, members, "queued_value", queued_value)?;
+    Ok(Value::Object(members))
 }
 
 // The JSON value of an account before the first day.
@@ -100,21 +95,16 @@ fn undated_value(
     requires { reading.now.day.date ≡ None }
     ensures { IfOk result (λ value. view value ≡ account_with queued_value reading.now) }
 {
-    let balance = reading.balance.cents();
-    let code = reading.participant.code.as_str();
-    let credit = reading.participant.credit.cents();
-    let name = reading.participant.name.as_str();
+    let participant = &reading.participant;
     let phase = phase_name(reading.day.phase);
-    let queued = reading.queued;
-    json!(in alloc; {
-        "balance": balance,
-        "code": code,
-        "credit": credit,
-        "name": name,
-        "phase": phase,
-        "queued": queued,
-        "queued_value": queued_value
-    })
+    let members = with_signed(alloc, Map::new(alloc), "balance", reading.balance.cents())?;
+    let members = with_text(alloc, members, "code", participant.code.as_str())?;
+    let members = with_whole(alloc, members, "credit", participant.credit.cents())?;
+    let members = with_text(alloc, members, "name", participant.name.as_str())?;
+    let members = with_text(alloc, members, "phase", phase)?;
+    let members = with_whole(alloc, members, "queued", reading.queued as u64)?;
+    let members = with_signed(alloc, members, "queued_value", queued_value)?;
+    Ok(Value::Object(members))
 }
 
 /// The name of a phase.

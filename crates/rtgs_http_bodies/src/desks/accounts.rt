@@ -7,11 +7,12 @@ ghost use Rattle.rtgs_http_bodies.specs.desks.Accounts.{QueuedValuesFit, account
 ghost use Rattle.rtgs_http_bodies.specs.replies.Messages.{json_message};
 
 use crate::desks::account::{phase_name, queued_in_64_bits};
+use crate::members::{with_signed, with_text, with_value, with_whole};
 use crate::replies::{ContentType, Reply};
 use http::StatusCode;
 use rtgs_book::{AccountReading, Day};
 use rtgs_money::{BusinessDate, Cents};
-use serde_json::{Value, json};
+use serde_json::{Map, Value};
 use std::alloc::{AllocError, Global};
 
 /// The reply that tells the operator all accounts, in their order. The only error is lack of memory.
@@ -64,13 +65,10 @@ fn dated_value(
 {
     let accounts = listed_values(alloc, accounts)?;
     let date = date.text();
-    let date = date.as_str();
-    let phase = phase_name(day.phase);
-    json!(in alloc; {
-        "accounts": accounts,
-        "date": date,
-        "phase": phase
-    })
+    let members = with_value(alloc, Map::new(alloc), "accounts", Value::Array(accounts))?;
+    let members = with_text(alloc, members, "date", date.as_str())?;
+    let members = with_text(alloc, members, "phase", phase_name(day.phase))?;
+    Ok(Value::Object(members))
 }
 
 // What is shown of all accounts before the first day.
@@ -79,11 +77,9 @@ fn undated_value(alloc: Global, day: Day, accounts: &[AccountReading]) -> Result
     ensures { QueuedValuesFit accounts.now → IfOk result (λ value. view value ≡ accounts_data day accounts.now) }
 {
     let accounts = listed_values(alloc, accounts)?;
-    let phase = phase_name(day.phase);
-    json!(in alloc; {
-        "accounts": accounts,
-        "phase": phase
-    })
+    let members = with_value(alloc, Map::new(alloc), "accounts", Value::Array(accounts))?;
+    let members = with_text(alloc, members, "phase", phase_name(day.phase))?;
+    Ok(Value::Object(members))
 }
 
 // What is shown of each account, in order.
@@ -106,21 +102,16 @@ fn listed_value(
 ) -> Result<Value, AllocError>
     ensures { IfOk result (λ value. view value ≡ listed_with queued_value account.now) }
 {
-    let balance = account.balance.cents();
-    let code = account.participant.code.as_str();
-    let credit = account.participant.credit.cents();
+    let participant = &account.participant;
     let lacking = lacking(account.balance);
-    let name = account.participant.name.as_str();
-    let queued = account.queued;
-    json!(in alloc; {
-        "balance": balance,
-        "code": code,
-        "credit": credit,
-        "lacking": lacking,
-        "name": name,
-        "queued": queued,
-        "queued_value": queued_value
-    })
+    let members = with_signed(alloc, Map::new(alloc), "balance", account.balance.cents())?;
+    let members = with_text(alloc, members, "code", participant.code.as_str())?;
+    let members = with_whole(alloc, members, "credit", participant.credit.cents())?;
+    let members = with_whole(alloc, members, "lacking", lacking)?;
+    let members = with_text(alloc, members, "name", participant.name.as_str())?;
+    let members = with_whole(alloc, members, "queued", account.queued as u64)?;
+    let members = with_signed(alloc, members, "queued_value", queued_value)?;
+    Ok(Value::Object(members))
 }
 
 // What an account with this balance must still get before the day can be closed, in cents.

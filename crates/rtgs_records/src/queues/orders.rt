@@ -129,6 +129,14 @@ impl Orders {
         }
     }
 
+    /// Whatever was done with them, their numbers rise.
+    pub fn have_rising_numbers(&self)
+        ensures { AreRising self.now.orders }
+    {
+        // Read for what is known of the orders alone.
+        let _orders = self.orders.as_slice();
+    }
+
     /// The numbers of the sender's queued orders, rising.
     pub fn queue(&self, sender: &Code) -> &[u64]
         ensures numbers { result.now ≡ queued_numbers self.now.orders sender.now }

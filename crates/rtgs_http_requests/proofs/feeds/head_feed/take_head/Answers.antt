@@ -1,3 +1,4 @@
+use Rattle.std.proofs.lemmas.Grind.{common_steps}
 use Rattle.std.proofs.Common.{rules, ◌≡◌, true, ◌+◌, ◌∷◌, [], ◌++◌, ◌∙◌, get_or, arith}
 use Rattle.std.specs.Result.{is_ok}
 use Rattle.rtgs_http_requests.specs.declared.feeds.limits.TheConstants.{LONGEST_HEAD}
@@ -41,3 +42,18 @@ loop-index-preserved c =
       );
       room = omega arith;
     }
+
+pub returns-then-is_end-clause-step : goal.returns-then-is_end-clause-step
+returns-then-is_end-clause-step c = grind (arith, common_steps)
+
+pub returns-then-is_end-clause-room : goal.returns-then-is_end-clause-room
+returns-then-is_end-clause-room c = grind (arith, common_steps)
+
+pub returns-then-len-eq-LONGEST_HEAD-clause-room : goal.returns-then-len-eq-LONGEST_HEAD-clause-room
+returns-then-len-eq-LONGEST_HEAD-clause-room c = grind (arith, common_steps)
+
+pub returns-clause-step : goal.returns-clause-step
+returns-clause-step c = grind (arith, common_steps)
+
+pub returns-clause-room : goal.returns-clause-room
+returns-clause-room c = grind (arith, common_steps)
