@@ -56,18 +56,25 @@ fn joined<'a>(
     ensures { (above : App) (below : Shape) → IfOk command.entry (line.IsLine above)
         → IfOk subcommand.entry (line.IsSubcommand below) → IfOk result (line.IsLine (with_subcommand above below)) }
 {
-    command?.subcommand(subcommand?)
+    match command {
+        Ok(command) => match subcommand {
+            Ok(subcommand) => command.subcommand(subcommand),
+            Err(error) => Err(error),
+        },
+        Err(error) => Err(error),
+    }
 }
 
 /// The command line of the desk, without its subcommands.
 fn bare_command<'a>(alloc: Global) -> Result<Command<'a>, AllocError>
     ensures { IfOk result (line.IsSubcommand line.program) }
 {
-    let desk = Command::new(alloc, "desk")
+    Command::new(alloc, "desk")
         .about("The settlement desk of a central bank")
         .version(VERSION)
-        .bin_name("desk")?;
-    Ok(desk.no_binary_name(true).subcommand_required(true))
+        .no_binary_name(true)
+        .subcommand_required(true)
+        .bin_name("desk")
 }
 
 /// The command line of the desk, with the subcommands of participants.

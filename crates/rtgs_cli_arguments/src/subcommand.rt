@@ -62,7 +62,10 @@ pub(crate) fn with_argument<'a>(
     ensures { (shape : Shape) (rule : Rule) → IfOk subcommand.entry (line.IsSubcommand shape)
         → line.IsArgument rule argument.entry → IfOk result (line.IsSubcommand (line.with_last shape rule)) }
 {
-    subcommand?.arg(argument)
+    match subcommand {
+        Ok(subcommand) => subcommand.arg(argument),
+        Err(error) => Err(error),
+    }
 }
 
 /// A subcommand that takes the book's file first.
