@@ -4,6 +4,7 @@
 
 mod batch_orders;
 mod counting_keeper;
+mod ensuring;
 mod failing_keeper;
 mod in_memory;
 mod opened;
@@ -14,6 +15,7 @@ mod silence;
 
 pub use crate::batch_orders::{orders, sent};
 pub use crate::counting_keeper::CountingKeeper;
+pub use crate::ensuring::{ensure, is};
 pub use crate::failing_keeper::{FailingKeeper, Trouble, failing};
 pub use crate::in_memory::MemoryKeeper;
 pub use crate::opened::{BANKS, begun, desk_over};

@@ -1,6 +1,7 @@
 //! Files that are no book, or are in use.
 use super::BEGIN;
 use super::script::{follows, follows_both, follows_each};
+use rtgs_tests_desks::ensure;
 use std::fs::{self, OpenOptions};
 use std::test::Fail;
 
@@ -145,7 +146,6 @@ $ desk init @
 fn of_a_new_book_have_pages_of_512_bytes(rt: HostRuntime) -> Result<(), Fail> {
     follows(&rt, "new_pages", NEW)?;
     let file = fs::read(&rt, "new_pages")?;
-    assert!(rt; file.as_slice().get(16..18) == Some([2, 0].as_slice()));
-    assert_eq!(rt; file.len() % 512, 0);
-    Ok(())
+    ensure(file.as_slice().get(16..18) == Some([2, 0].as_slice()))?;
+    ensure(file.len() % 512 == 0)
 }

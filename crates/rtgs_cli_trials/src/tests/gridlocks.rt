@@ -2,7 +2,7 @@
 use super::days::OPEN_DAY;
 use super::scenarios::script_of;
 use super::script::follows_both;
-use rtgs_tests_desks::GRIDLOCKS;
+use rtgs_tests_desks::{GRIDLOCKS, ensure};
 use std::test::Fail;
 
 #[test]
@@ -14,8 +14,7 @@ fn runs_do_what_each_scenario_says(rt: HostRuntime) -> Result<(), Fail> {
         follows_both(&rt, book.as_str(), OPEN_DAY, script.as_str())?;
         count = count.saturating_add(1);
     }
-    assert_eq!(rt; count, 8);
-    Ok(())
+    ensure(count == 8)
 }
 
 const DEADLOCK: &str = "

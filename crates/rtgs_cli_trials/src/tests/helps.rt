@@ -111,7 +111,7 @@ fn each_subcommand_has_its_own_help(rt: HostRuntime) -> Result<(), Fail> {
 /// The version of the tables is that of a new book, or else what is inserted has no value, which is refused.
 const VERSIONS: &str = "
 $ names --version
-> desk 0.12.0, tables 3, rattle-kit-
+> desk 0.13.0, tables 3, rattle-kit-
 status 0 helped
 $ desk init @
 > initialised

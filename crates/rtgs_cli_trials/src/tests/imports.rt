@@ -1,5 +1,6 @@
 //! Files of orders, taken whole or not at all, and sent again.
 use super::script::{follows, follows_both};
+use rtgs_tests_desks::ensure;
 use std::alloc::{AllocError, Global};
 use std::fmt::Write;
 use std::test::Fail;
@@ -185,7 +186,7 @@ fn a_file_of_500_orders_is_answered_row_by_row(rt: HostRuntime) -> Result<(), Fa
     let first = import_of(rt.alloc(), 500, false)?;
     let again = import_of(rt.alloc(), 500, true)?;
     // all orders and all answers are in them
-    assert_eq!(rt; (first.len(), again.len()), (17692, 20408));
+    ensure((first.len(), again.len()) == (17692, 20408))?;
     follows(&rt, "many", DAY)?;
     follows_both(&rt, "many", first.as_str(), again.as_str())
 }

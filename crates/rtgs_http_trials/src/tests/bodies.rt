@@ -1,5 +1,6 @@
 //! Lengths of bodies, and what their bytes spell.
 use super::faults::{alfas_desk, is_answered, tells_faults};
+use rtgs_tests_desks::ensure;
 use std::alloc::{AllocError, Global};
 use std::test::Fail;
 
@@ -208,6 +209,5 @@ fn a_body_that_is_no_text(rt: HostRuntime) -> Result<(), Fail> {
     let desk = alfas_desk(rt.alloc())?;
     let mut input = NO_TEXT;
     let fault = desk.asks(&mut input)?;
-    assert_eq!(rt; fault.as_str(), "400 65 BadJson");
-    Ok(())
+    ensure(fault.as_str() == "400 65 BadJson")
 }

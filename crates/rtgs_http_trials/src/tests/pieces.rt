@@ -1,5 +1,6 @@
 //! The same input in pieces.
 use rtgs_http_requests::{BodyFeed, BodyStep, HeadFeed, HeadStep};
+use rtgs_tests_desks::ensure;
 use std::alloc::Global;
 use std::test::Fail;
 
@@ -94,9 +95,8 @@ fn single_bytes_make_the_same_head(rt: HostRuntime) -> Result<(), Fail> {
     let Some(feed) = head_in_bytes(rt.alloc(), GOOD)? else {
         return Err(Fail::from("no head"));
     };
-    assert_eq!(rt; feed.bytes(), &GOOD[..HEAD]);
-    assert!(rt; head_in_bytes(rt.alloc(), &[b'A'; 8192])?.is_none());
-    Ok(())
+    ensure(feed.bytes() == &GOOD[..HEAD])?;
+    ensure(head_in_bytes(rt.alloc(), &[b'A'; 8192])?.is_none())
 }
 
 #[test]
@@ -104,18 +104,16 @@ fn single_bytes_make_the_same_body(rt: HostRuntime) -> Result<(), Fail> {
     let (_, body) = GOOD.split_at(HEAD);
     let mut feed = BodyFeed::new(rt.alloc(), body.len())?;
     for place in 0..body.len() {
-        assert!(rt; feed.end().is_err());
+        ensure(feed.end().is_err())?;
         feed.feed(&body[place..place + 1]);
     }
-    assert_eq!(rt; feed.bytes(), body);
-    assert_eq!(rt; feed.end(), Ok(()));
-    Ok(())
+    ensure(feed.bytes() == body)?;
+    ensure(feed.end() == Ok(()))
 }
 
 #[test]
 fn a_body_without_bytes_is_whole(rt: HostRuntime) -> Result<(), Fail> {
     let mut feed = BodyFeed::new(rt.alloc(), 0)?;
-    assert_eq!(rt; feed.end(), Ok(()));
-    assert_eq!(rt; feed.feed(b"behind"), BodyStep::Full { taken: 0 });
-    Ok(())
+    ensure(feed.end() == Ok(()))?;
+    ensure(feed.feed(b"behind") == BodyStep::Full { taken: 0 })
 }

@@ -5,7 +5,7 @@ use super::store::{Booked, Ended, Job, Store};
 use rtgs_desk::Desk;
 use rtgs_keeper::Keeper;
 use rtgs_money::{Code, Reference};
-use rtgs_tests_desks::{CountingKeeper, desk_over, follows, seen_of};
+use rtgs_tests_desks::{CountingKeeper, desk_over, ensure, follows, seen_of};
 use std::alloc::Global;
 use std::cell::Cell;
 use std::test::Fail;
@@ -118,12 +118,10 @@ fn counts_over<S: Store>(alloc: Global) -> Result<(usize, usize), Fail> {
 
 #[test]
 fn in_memory_each_command_that_acts_is_one_commit(rt: HostRuntime) -> Result<(), Fail> {
-    assert_eq!(rt; counts_over::<InMemory>(rt.alloc())?, (18, 10));
-    Ok(())
+    ensure(counts_over::<InMemory>(rt.alloc())? == (18, 10))
 }
 
 #[test]
 fn over_tables_each_command_that_acts_is_one_commit(rt: HostRuntime) -> Result<(), Fail> {
-    assert_eq!(rt; counts_over::<OnDisks>(rt.alloc())?, (18, 10));
-    Ok(())
+    ensure(counts_over::<OnDisks>(rt.alloc())? == (18, 10))
 }

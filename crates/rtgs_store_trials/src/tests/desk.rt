@@ -8,7 +8,7 @@ use super::setting::{alone, desk_over};
 use rtgs_book::{Answer, NewOrder, Refusal};
 use rtgs_desk::Desk;
 use rtgs_keeper::Keeper;
-use rtgs_tests_desks::MemoryKeeper;
+use rtgs_tests_desks::{MemoryKeeper, ensure};
 use std::alloc::Global;
 use std::test::Fail;
 
@@ -26,9 +26,8 @@ fn a_posting_is_answered_and_kept(rt: HostRuntime) -> Result<(), Fail> {
     let mut desk = desk_over(rt.alloc(), MemoryKeeper::new(rt.alloc()))?;
     let replies = [desk.submit(add), desk.submit(post)];
     let wanted = [alone(Answer::Added), alone(Answer::Posted { number: 1 })];
-    assert_eq!(rt; (replies, desk.failed()), (wanted, false));
-    assert_eq!(rt; postings_kept(rt.alloc(), desk)?, 1);
-    Ok(())
+    ensure((replies, desk.failed()) == (wanted, false))?;
+    ensure(postings_kept(rt.alloc(), desk)? == 1)
 }
 
 #[test]
@@ -38,6 +37,5 @@ fn commands_are_run_in_order(rt: HostRuntime) -> Result<(), Fail> {
     let mut desk = desk_over(rt.alloc(), MemoryKeeper::new(rt.alloc()))?;
     let answers = desk.run(&commands)?;
     let expected = [alone(Answer::Added), Err(Refusal::NoCover)];
-    assert_eq!(rt; answers.as_slice(), expected.as_slice());
-    Ok(())
+    ensure(answers.as_slice() == expected.as_slice())
 }

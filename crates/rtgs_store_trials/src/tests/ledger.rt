@@ -7,7 +7,7 @@ use super::scripts::scenarios::script_of;
 use super::setting::change;
 use rtgs_book::{Answer, Day, Fault, Found, NewOrder, Phase, Refusal, RowChange};
 use rtgs_keeper::Keeper;
-use rtgs_tests_desks::{GRIDLOCKS, MemoryKeeper};
+use rtgs_tests_desks::{GRIDLOCKS, MemoryKeeper, ensure};
 use std::alloc::Global;
 use std::test::Fail;
 
@@ -19,7 +19,7 @@ fn a_participant_is_prepared_and_adopted(rt: HostRuntime) -> Result<(), Fail> {
     let mut ledger = new_ledger(rt.alloc())?;
     match ledger.prepare(&command, &Found::NOTHING) {
         Ok((answer, change)) => {
-            assert_eq!(rt; (answer.own, change.len()), (Answer::Added, 1));
+            ensure((answer.own, change.len()) == (Answer::Added, 1))?;
             ledger.adopt(change);
         }
         Err(_) => assert!(rt; false, "refused"),
@@ -34,8 +34,7 @@ fn an_unknown_participant_gets_no_posting(rt: HostRuntime) -> Result<(), Fail> {
     let command = command(rt.alloc(), "post ALFA P-1 1")?;
     let mut ledger = new_ledger(rt.alloc())?;
     let refused = ledger.prepare(&command, &Found::NOTHING).err();
-    assert_eq!(rt; refused, Some(Refusal::UnknownParticipant));
-    Ok(())
+    ensure(refused == Some(Refusal::UnknownParticipant))
 }
 
 /// What a keeper fails with whose day is open, and has no date.
@@ -52,8 +51,7 @@ fn fault_without_a_date<K: Keeper>(alloc: Global, keeper: &mut K) -> Result<Opti
 #[test]
 fn a_book_that_is_not_sound_has_no_core_to_load(rt: HostRuntime) -> Result<(), Fail> {
     let fault = fault_without_a_date(rt.alloc(), &mut MemoryKeeper::new(rt.alloc()))?;
-    assert!(rt; matches!(fault, Some(Fault::Inconsistent { .. })));
-    Ok(())
+    ensure(matches!(fault, Some(Fault::Inconsistent { .. })))
 }
 
 #[test]
@@ -93,8 +91,7 @@ fn a_ledger_does_what_each_scenario_says(rt: HostRuntime) -> Result<(), Fail> {
         new_ledger_follows(&rt, script.as_str())?;
         count = count.saturating_add(1);
     }
-    assert_eq!(rt; count, 8);
-    Ok(())
+    ensure(count == 8)
 }
 
 #[test]

@@ -4,6 +4,7 @@ use super::scripts::{Answers, follows};
 use super::setting::is_same;
 use rtgs_book::NewOrder;
 use rtgs_order_files::{BatchFault, read_orders};
+use rtgs_tests_desks::ensure;
 use std::alloc::{AllocError, Global};
 use std::test::Fail;
 
@@ -214,8 +215,7 @@ fn long_field(alloc: Global, length: usize) -> Result<String, Fail> {
 fn a_long_field_is_a_bad_row(rt: HostRuntime) -> Result<(), Fail> {
     let file = long_field(rt.alloc(), 70_000)?;
     let fault = read_orders(rt.alloc(), file.as_bytes()).err();
-    assert_eq!(rt; fault, Some(BatchFault::BadRow { row: 1 }));
-    Ok(())
+    ensure(fault == Some(BatchFault::BadRow { row: 1 }))
 }
 
 // Reads a file of so many rows, of which one is bad.

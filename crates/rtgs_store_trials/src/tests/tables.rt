@@ -14,6 +14,7 @@ use rtgs_book::{Book, Change, Fault, Participant, Posting, RowChange};
 use rtgs_keeper::{CommitFault, Keeper};
 use rtgs_money::Cents;
 use rtgs_tables::SqlKeeper;
+use rtgs_tests_desks::ensure;
 use sqlite::{Alter, Connection, MemStore};
 use std::alloc::Global;
 use std::test::Fail;
@@ -112,8 +113,7 @@ fn new_book(alloc: Global) -> Result<Book, Fail> {
 fn a_new_book_is_empty(rt: HostRuntime) -> Result<(), Fail> {
     let book = new_book(rt.alloc())?;
     let found = (book.participants.is_empty(), book.day.date.is_none());
-    assert_eq!(rt; found, (true, true));
-    Ok(())
+    ensure(found == (true, true))
 }
 
 /// Whether these are the two banks.
@@ -144,8 +144,7 @@ fn found_again<S: Alter + Drop>(alloc: Global, keeper: SqlKeeper<S>) -> Result<B
 #[test]
 fn changes_are_found_again(rt: HostRuntime) -> Result<(), Fail> {
     let book = found_again(rt.alloc(), two_banks(rt.alloc())?)?;
-    assert!(rt; has_two_banks(&book)?);
-    Ok(())
+    ensure(has_two_banks(&book)?)
 }
 
 /// What the keeper fails with at a posting whose reference was used, and at another posting.
@@ -178,8 +177,7 @@ fn a_repeated_key_fails_the_keeper(rt: HostRuntime) -> Result<(), Fail> {
     let keeper = two_banks(rt.alloc())?;
     let found = faults_and_postings(rt.alloc(), keeper)?;
     let faults = [Some(CommitFault::Store), Some(CommitFault::Failed)];
-    assert_eq!(rt; found, (faults, Some(Fault::StoreFault), 1));
-    Ok(())
+    ensure(found == (faults, Some(Fault::StoreFault), 1))
 }
 
 const NO_DESK: &str = "
@@ -285,6 +283,5 @@ fn other_tables_that_show_a_book_are_read(rt: HostRuntime) -> Result<(), Fail> {
 fn an_empty_file_is_no_desk(rt: HostRuntime) -> Result<(), Fail> {
     let conn = Connection::open_in_memory(rt.alloc())?;
     let mut keeper = SqlKeeper::open(conn);
-    assert_eq!(rt; keeper.load(rt.alloc()).err(), Some(Fault::NotADeskFile));
-    Ok(())
+    ensure(keeper.load(rt.alloc()).err() == Some(Fault::NotADeskFile))
 }

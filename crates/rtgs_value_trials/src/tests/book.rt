@@ -1,9 +1,9 @@
 //! Values from outside: rows, the numbers of rules, and those of refusals.
 use super::refusals::row_of;
-use super::script::{ensure, is};
 use super::setting::code;
 use rtgs_book::{Fault, Refusal, Rows, Rule};
 use rtgs_soundness::RULES_OF_A_BOOK;
+use rtgs_tests_desks::{ensure, is};
 use std::alloc::Global;
 use std::test::Fail;
 

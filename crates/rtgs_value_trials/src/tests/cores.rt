@@ -1,11 +1,11 @@
 //! The core of a book.
-use super::script::ensure;
 use super::setting::{MONDAY, TUESDAY, code, date};
 use rtgs_book::{
     Account, Book, Core, Day, Mark, Order, OrderState, Participant, Phase, Posting, Rows,
 };
 use rtgs_money::{Amount, Cents, Credit, KeyDigest, Name, PostingAmount, Reference};
 use rtgs_soundness::{check, core_of};
+use rtgs_tests_desks::ensure;
 use std::alloc::Global;
 use std::test::Fail;
 

@@ -6,7 +6,7 @@ mod resolver;
 
 use resolver::Resolver;
 use rtgs_gridlock::{Positions, Queues, Workspace, greatest};
-use rtgs_tests_desks::{GRIDLOCKS, plays};
+use rtgs_tests_desks::{GRIDLOCKS, ensure, plays};
 use std::alloc::Global;
 use std::test::Fail;
 
@@ -43,6 +43,5 @@ fn the_resolver_does_what_each_scenario_says(rt: HostRuntime) -> Result<(), Fail
         plays(rt.alloc(), &mut resolver, scenario)?;
         count = count.saturating_add(1);
     }
-    assert_eq!(rt; count, 8);
-    Ok(())
+    ensure(count == 8)
 }

@@ -1,6 +1,7 @@
 //! Every row of the table of refusals, with values written out by hand.
-use super::script::{ensure, is, lines_of};
+use super::script::lines_of;
 use rtgs_refusals::RefusalKind;
+use rtgs_tests_desks::{ensure, is};
 use std::alloc::Global;
 use std::test::Fail;
 

@@ -3,24 +3,6 @@ use std::alloc::Global;
 use std::str::Lines;
 use std::test::Fail;
 
-/// An error where something is not so.
-pub fn ensure(holds: bool) -> Result<(), Fail> {
-    if holds {
-        Ok(())
-    } else {
-        Err(Fail::from("it is not so"))
-    }
-}
-
-/// An error where a text is another.
-pub fn is(found: &str, wanted: &str) -> Result<(), Fail> {
-    if found == wanted {
-        Ok(())
-    } else {
-        Err(Fail::new(format_args!("{found}, and not {wanted}")))
-    }
-}
-
 /// The lines of a table, which has one at least.
 pub fn lines_of(table: &str) -> Result<Lines<'_>, Fail> {
     let table = table.trim();

@@ -3,7 +3,6 @@ mod automatic_days;
 mod due_dates;
 mod judged;
 
-use super::script::ensure;
 use super::setting::{MONDAY, TUESDAY, date};
 use rtgs_book::{
     Book, Day, Fault, Mark, Order, OrderState, Participant, Phase, Posting, Rows, Rule,
@@ -12,6 +11,7 @@ use rtgs_money::{
     Amount, BusinessDate, Cents, Code, Credit, KeyDigest, Name, PostingAmount, Reference,
 };
 use rtgs_soundness::{RULES_OF_A_BOOK, balances, check};
+use rtgs_tests_desks::ensure;
 use std::alloc::Global;
 use std::collections::BTreeMap;
 use std::test::Fail;

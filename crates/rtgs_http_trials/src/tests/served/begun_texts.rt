@@ -5,7 +5,7 @@ use rtgs_book::Refusal;
 use rtgs_http_bodies::{write_report, write_statement};
 use rtgs_money::{BusinessDate, Code};
 use rtgs_statements::BookTextFault;
-use rtgs_tests_desks::Trouble;
+use rtgs_tests_desks::{Trouble, ensure};
 use std::alloc::Global;
 use std::test::Fail;
 
@@ -104,7 +104,7 @@ fn first_lines(alloc: Global, count: usize) -> Result<String, Fail> {
 fn a_third_posting_that_is_not_read_leaves_two(rt: HostRuntime) -> Result<(), Fail> {
     let mut desk = desk_after(rt.alloc(), 2, Trouble::Lost)?;
     let shown = statement(rt.alloc(), &mut desk, "ALFA")?;
-    assert!(rt; desk.desk.failed());
+    ensure(desk.desk.failed())?;
     is_same(
         shown.as_str(),
         "Some(StoreFault)
@@ -165,7 +165,7 @@ fn a_statement_takes_five_reads(rt: HostRuntime) -> Result<(), Fail> {
 fn a_statement_of_nobody_is_refused_before_a_read(rt: HostRuntime) -> Result<(), Fail> {
     let mut desk = desk_after(rt.alloc(), 0, Trouble::Lost)?;
     let found = statement(rt.alloc(), &mut desk, "ZETA")?;
-    assert!(rt; !desk.desk.failed());
+    ensure(!desk.desk.failed())?;
     is_same(found.as_str(), "Some(UnknownParticipant)\n")
 }
 
@@ -207,7 +207,7 @@ fn whole_report(alloc: Global) -> Result<String, Fail> {
 fn a_report_is_begun_once_all_is_read(rt: HostRuntime) -> Result<(), Fail> {
     let shown = whole_report(rt.alloc())?;
     let whole = shown.as_str();
-    assert!(rt; whole.starts_with("report 2024-03-04\n"));
+    ensure(whole.starts_with("report 2024-03-04\n"))?;
     none_is_begun(rt.alloc(), Trouble::Lost, whole)?;
     none_is_begun(rt.alloc(), Trouble::Kept, whole)?;
     none_is_begun(rt.alloc(), Trouble::OutOfMemory, whole)

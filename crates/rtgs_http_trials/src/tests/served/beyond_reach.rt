@@ -2,6 +2,7 @@
 use super::super::test_desk::whole;
 use rtgs_book::Refusal;
 use rtgs_http_bodies::{Reply, refusal_reply};
+use rtgs_tests_desks::ensure;
 use std::test::Fail;
 
 #[test]
@@ -10,8 +11,7 @@ fn a_book_that_is_full_is_answered_so(rt: HostRuntime) -> Result<(), Fail> {
     let expected = "{\"code\":8,\"name\":\"NumbersUsedUp\"}";
     let wanted = whole(alloc, "409 Conflict", "application/json", expected)?;
     let reply = refusal_reply(alloc, Refusal::NumbersUsedUp)?;
-    assert!(rt; reply.as_bytes() == wanted.as_bytes());
-    Ok(())
+    ensure(reply.as_bytes() == wanted.as_bytes())
 }
 
 #[test]
@@ -24,7 +24,6 @@ fn an_answer_that_is_lost_is_answered_so(rt: HostRuntime) -> Result<(), Fail> {
         expected,
     )?;
     let reply = Reply::answer_lost();
-    assert_eq!(rt; reply.status().as_u16(), 503);
-    assert!(rt; reply.as_bytes() == wanted.as_bytes());
-    Ok(())
+    ensure(reply.status().as_u16() == 503)?;
+    ensure(reply.as_bytes() == wanted.as_bytes())
 }

@@ -5,7 +5,7 @@ use super::super::{GOOD, OPERATOR, digest};
 use http::StatusCode;
 use rtgs_book::{Answer, Command, Refusal, WholeAnswer};
 use rtgs_http_server::{Connections, serve_connections};
-use rtgs_tests_desks::Trouble;
+use rtgs_tests_desks::{Trouble, ensure};
 use std::alloc::Global;
 use std::test::Fail;
 
@@ -84,8 +84,7 @@ fn one_that_is_not_accepted_counts_as_served(rt: HostRuntime) -> Result<(), Fail
     let good = Some(GOOD.as_bytes());
     let inputs = [None, good, Some("GET".as_bytes()), good];
     let statuses = ["HTTP/1.1 200 OK\r\n", "HTTP/1.1 400 Bad Request\r\n"];
-    assert!(rt; serves(rt.alloc(), &mut desk, &inputs, 3, 0, &statuses));
-    Ok(())
+    ensure(serves(rt.alloc(), &mut desk, &inputs, 3, 0, &statuses))
 }
 
 #[test]
@@ -93,8 +92,7 @@ fn each_of_forty_is_served(rt: HostRuntime) -> Result<(), Fail> {
     let mut desk = TestDesk::open(rt.alloc())?;
     let inputs = [Some(GOOD.as_bytes()); 40];
     let statuses = ["HTTP/1.1 200 OK\r\n"; 40];
-    assert!(rt; serves(rt.alloc(), &mut desk, &inputs, 40, 0, &statuses));
-    Ok(())
+    ensure(serves(rt.alloc(), &mut desk, &inputs, 40, 0, &statuses))
 }
 
 #[test]
@@ -103,8 +101,7 @@ fn none_is_served_once_the_desk_has_failed(rt: HostRuntime) -> Result<(), Fail> 
     let mut desk = TestDesk::troubled(rt.alloc(), 1, Trouble::Lost)?;
     let good = Some(GOOD.as_bytes());
     let statuses = ["HTTP/1.1 503 Service Unavailable\r\n"];
-    assert!(rt; serves(rt.alloc(), &mut desk, &[good, good], 2, 1, &statuses));
-    Ok(())
+    ensure(serves(rt.alloc(), &mut desk, &[good, good], 2, 1, &statuses))
 }
 
 // The bytes of a request.
@@ -127,9 +124,8 @@ fn operates(alloc: Global, key: &str, beginnings: &[&str]) -> Result<bool, Fail>
 fn the_operator_has_the_key_that_was_given(rt: HostRuntime) -> Result<(), Fail> {
     let taken = "HTTP/1.1 200 OK\r\n";
     let refused = "HTTP/1.1 403 Forbidden\r\n";
-    assert!(rt; operates(rt.alloc(), OPERATOR, &[taken, refused])?);
-    assert!(rt; operates(rt.alloc(), OTHER, &[refused, taken])?);
-    Ok(())
+    ensure(operates(rt.alloc(), OPERATOR, &[taken, refused])?)?;
+    ensure(operates(rt.alloc(), OTHER, &[refused, taken])?)
 }
 
 // Orders of a ring, none of which is covered.
@@ -164,8 +160,7 @@ fn settles_three(reply: &Result<WholeAnswer, Refusal>) -> bool {
 #[test]
 fn orders_in_a_ring_wait_until_somebody_resolves(rt: HostRuntime) -> Result<(), Fail> {
     let mut desk = TestDesk::open(rt.alloc())?;
-    assert!(rt; takes_ring(rt.alloc(), &mut desk)?);
+    ensure(takes_ring(rt.alloc(), &mut desk)?)?;
     let resolved = desk.desk.submit(Command::Resolve);
-    assert!(rt; settles_three(&resolved));
-    Ok(())
+    ensure(settles_three(&resolved))
 }

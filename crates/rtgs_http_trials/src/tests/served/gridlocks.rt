@@ -1,7 +1,7 @@
 //! Orders that wait for each other, request by request; and the texts of a day with a gridlock of which a part settles.
 use super::super::test_desk::{follows, follows_after};
 use super::scenarios::script_of;
-use rtgs_tests_desks::GRIDLOCKS;
+use rtgs_tests_desks::{GRIDLOCKS, ensure};
 use std::test::Fail;
 
 #[test]
@@ -12,8 +12,7 @@ fn a_served_desk_does_what_each_scenario_says(rt: HostRuntime) -> Result<(), Fai
         follows(rt.alloc(), script.as_str())?;
         count = count.saturating_add(1);
     }
-    assert_eq!(rt; count, 8);
-    Ok(())
+    ensure(count == 8)
 }
 
 const ORDERS: &str = r#"

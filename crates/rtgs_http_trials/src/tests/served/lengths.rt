@@ -1,5 +1,6 @@
 //! The longest body, one that is longer, and long ones that are no order.
 use super::super::test_desk::TestDesk;
+use rtgs_tests_desks::ensure;
 use std::alloc::{AllocError, Global};
 use std::test::Fail;
 
@@ -16,7 +17,7 @@ fn a_body_has_65536_bytes_at_most(rt: HostRuntime) -> Result<(), Fail> {
     let more = spaced(rt.alloc(), 65537 - 44)?;
     let most = spaced(rt.alloc(), 65536 - 44)?;
     // 18 bytes say the caller, the method and the target
-    assert_eq!(rt; (most.len(), more.len()), (18 + 65536, 18 + 65537));
+    ensure((most.len(), more.len()) == (18 + 65536, 18 + 65537))?;
     let mut desk = TestDesk::open(rt.alloc())?;
     desk.is_answered(
         more.as_str(),
@@ -71,7 +72,7 @@ fn with_keys(alloc: Global, count: u32) -> Result<String, Fail> {
 #[test]
 fn a_long_body_may_have_wrong_fields(rt: HostRuntime) -> Result<(), Fail> {
     let asked = with_keys(rt.alloc(), 4000)?;
-    assert_eq!(rt; asked.len(), 18 + 40014);
+    ensure(asked.len() == 18 + 40014)?;
     let mut desk = TestDesk::open(rt.alloc())?;
     desk.is_answered(
         asked.as_str(),

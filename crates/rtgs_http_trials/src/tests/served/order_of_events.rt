@@ -6,7 +6,7 @@ use super::watching_writer::WatchingWriter;
 use rtgs_desk::Desk;
 use rtgs_http_server::serve_one;
 use rtgs_keeper::Keeper;
-use rtgs_tests_desks::{CountingKeeper, MemoryKeeper, desk_over};
+use rtgs_tests_desks::{CountingKeeper, MemoryKeeper, desk_over, ensure};
 use std::alloc::Global;
 use std::cell::Cell;
 use std::test::Fail;
@@ -49,9 +49,8 @@ fn each_byte_is_written_after_the_last_commit(rt: HostRuntime) -> Result<(), Fai
     let keeper = CountingKeeper::new(MemoryKeeper::new(rt.alloc()), &commits);
     let mut desk = desk_over(rt.alloc(), keeper)?;
     begin_day(&mut desk, false)?;
-    assert_eq!(rt; commits.get(), 4);
-    assert!(rt; is_written_last(rt.alloc(), &mut desk, BATCH, &commits, 7)?);
-    Ok(())
+    ensure(commits.get() == 4)?;
+    ensure(is_written_last(rt.alloc(), &mut desk, BATCH, &commits, 7)?)
 }
 
 const FIRST: &str = r#"ALFA POST /orders {"amount":100,"reference":"A-1","to":"BETA"}"#;
@@ -65,8 +64,7 @@ fn what_follows_an_order_is_in_its_commit(rt: HostRuntime) -> Result<(), Fail> {
     let keeper = CountingKeeper::new(MemoryKeeper::new(rt.alloc()), &commits);
     let mut desk = desk_over(rt.alloc(), keeper)?;
     begin_day(&mut desk, true)?;
-    assert!(rt; is_written_last(rt.alloc(), &mut desk, FIRST, &commits, 5)?);
-    assert!(rt; is_written_last(rt.alloc(), &mut desk, SECOND, &commits, 6)?);
-    assert!(rt; is_written_last(rt.alloc(), &mut desk, SECOND, &commits, 6)?);
-    Ok(())
+    ensure(is_written_last(rt.alloc(), &mut desk, FIRST, &commits, 5)?)?;
+    ensure(is_written_last(rt.alloc(), &mut desk, SECOND, &commits, 6)?)?;
+    ensure(is_written_last(rt.alloc(), &mut desk, SECOND, &commits, 6)?)
 }

@@ -1,6 +1,7 @@
 //! Feeds of a head and of a body, which have all their room from the beginning: they take pieces without memory.
 use super::super::scarce::{Held, had_none, in_a_process, is_limited, is_none_left};
 use rtgs_http_requests::{BodyFeed, BodyStep, HeadFeed, HeadStep};
+use rtgs_tests_desks::ensure;
 use std::alloc::Global;
 use std::test::Fail;
 
@@ -58,8 +59,7 @@ fn of_a_head(rt: HostRuntime) -> Result<(), Fail> {
     if !is_limited(&rt) {
         return in_a_process(&rt, "tests::in_memory::feeds::of_a_head");
     }
-    assert!(rt; head_is_fed(rt.alloc())?);
-    Ok(())
+    ensure(head_is_fed(rt.alloc())?)
 }
 
 #[test]
@@ -67,6 +67,5 @@ fn of_a_body(rt: HostRuntime) -> Result<(), Fail> {
     if !is_limited(&rt) {
         return in_a_process(&rt, "tests::in_memory::feeds::of_a_body");
     }
-    assert!(rt; body_is_fed(rt.alloc())?);
-    Ok(())
+    ensure(body_is_fed(rt.alloc())?)
 }

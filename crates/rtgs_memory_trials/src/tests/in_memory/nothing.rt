@@ -8,7 +8,7 @@ use rtgs_keeper::Keeper;
 use rtgs_ledger::Ledger;
 use rtgs_money::BusinessDate;
 use rtgs_output::WriterFailed;
-use rtgs_tests_desks::{MemoryKeeper, command};
+use rtgs_tests_desks::{MemoryKeeper, command, ensure};
 use std::alloc::Global;
 use std::process::Abort;
 use std::test::Fail;
@@ -36,11 +36,11 @@ fn chosen(
     positions: &Positions,
     queues: &Queues,
 ) -> Result<Workspace, Fail> {
-    assert_eq!(rt; positions.len(), 2);
-    assert_eq!(rt; queues.len(), 2);
-    assert!(rt; positions.are_floored());
-    assert!(rt; queues.are_in_range());
-    assert!(rt; queues.payment_count() == Some(3));
+    ensure(positions.len() == 2)?;
+    ensure(queues.len() == 2)?;
+    ensure(positions.are_floored())?;
+    ensure(queues.are_in_range())?;
+    ensure(queues.payment_count() == Some(3))?;
     let mut workspace = Workspace::reserve(alloc, 2, 3)?;
     let held = Held::all_but(alloc, 0)?;
     let is_none = is_none_left(alloc);
@@ -57,8 +57,7 @@ fn greatest_choice(rt: HostRuntime) -> Result<(), Fail> {
     }
     let (positions, queues) = positions_and_queues(rt.alloc())?;
     let workspace = chosen(&rt, rt.alloc(), &positions, &queues)?;
-    assert_eq!(rt; workspace.lengths(), [1, 0].as_slice());
-    Ok(())
+    ensure(workspace.lengths() == [1, 0].as_slice())
 }
 
 // The ledger of the book that a keeper has.
@@ -132,14 +131,10 @@ fn adopt(rt: HostRuntime) -> Result<(), Fail> {
     }
     let settled = "open 2024-03-04\norder ALFA A-1 BETA 100";
     let queued = "open 2024-03-04\norder ALFA A-1 BETA 101";
-    assert_eq!(rt; adopted(rt.alloc(), "100", settled)?, [(-100, 0), (100, 0)]);
-    assert_eq!(rt; adopted(rt.alloc(), "100", queued)?, [(0, 1), (0, 0)]);
-    assert_eq!(rt; adopted(rt.alloc(), "100", HELD_ORDERS)?, [(0, 2), (0, 0)]);
-    assert_eq!(rt;
-        adopted(rt.alloc(), "10", FREEING_ORDER)?,
-        [(-10, 0), (10, 0)]
-    );
-    Ok(())
+    ensure(adopted(rt.alloc(), "100", settled)? == [(-100, 0), (100, 0)])?;
+    ensure(adopted(rt.alloc(), "100", queued)? == [(0, 1), (0, 0)])?;
+    ensure(adopted(rt.alloc(), "100", HELD_ORDERS)? == [(0, 2), (0, 0)])?;
+    ensure(adopted(rt.alloc(), "10", FREEING_ORDER)? == [(-10, 0), (10, 0)])
 }
 
 const FIXED: &str =
@@ -172,6 +167,5 @@ fn fixed_replies(rt: HostRuntime) -> Result<(), Fail> {
         return in_a_process(&rt, "tests::in_memory::nothing::fixed_replies");
     }
     let written = fixed_without_memory(rt.alloc())?;
-    assert_eq!(rt; std::str::from_utf8(written.as_slice())?, FIXED);
-    Ok(())
+    ensure(std::str::from_utf8(written.as_slice())? == FIXED)
 }

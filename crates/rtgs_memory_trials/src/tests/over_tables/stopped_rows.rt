@@ -6,6 +6,7 @@ use rtgs_book::{NewOrder, Refusal};
 use rtgs_desk::{Desk, submit_batch};
 use rtgs_keeper::Keeper;
 use rtgs_order_files::{BatchResult, read_orders, write_results};
+use rtgs_tests_desks::ensure;
 use std::alloc::Global;
 use std::fmt::Write;
 use std::test::Fail;
@@ -195,6 +196,5 @@ fn a_later_row(rt: HostRuntime) -> Result<(), Fail> {
         "the batch stops at {met} of {} rows, in {steps} steps of {BLOCKS} blocks",
         rows.len()
     ))?;
-    assert!(rt; met >= LEAST_MET);
-    Ok(())
+    ensure(met >= LEAST_MET)
 }

@@ -14,6 +14,7 @@ use rtgs_keeper::Keeper;
 use rtgs_laws::repeats::laws::sessions_join;
 use rtgs_money::Code;
 use rtgs_order_files::BatchResult;
+use rtgs_tests_desks::ensure;
 use std::alloc::{AllocError, Global};
 use std::test::Fail;
 
@@ -56,7 +57,6 @@ fn a_command_and_a_batch_are_a_session(rt: HostRuntime) -> Result<(), Fail> {
         sender,
         rows.as_slice(),
     )?;
-    assert_eq!(rt; reply, alone(Answer::Nothing));
-    assert_eq!(rt; batch.replies.len(), 3);
-    Ok(())
+    ensure(reply == alone(Answer::Nothing))?;
+    ensure(batch.replies.len() == 3)
 }

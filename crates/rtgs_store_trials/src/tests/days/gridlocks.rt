@@ -3,7 +3,7 @@ use super::super::scripts::follows;
 use super::super::scripts::scenarios::script_of;
 use super::super::setting::{desk_over, new_keeper};
 use rtgs_keeper::Keeper;
-use rtgs_tests_desks::{GRIDLOCKS, MemoryKeeper};
+use rtgs_tests_desks::{GRIDLOCKS, MemoryKeeper, ensure};
 use std::alloc::Global;
 use std::test::Fail;
 
@@ -21,8 +21,7 @@ fn a_desk_in_memory_does_what_each_scenario_says(rt: HostRuntime) -> Result<(), 
         desk_plays(rt.alloc(), MemoryKeeper::new(rt.alloc()), scenario)?;
         count = count.saturating_add(1);
     }
-    assert_eq!(rt; count, 8);
-    Ok(())
+    ensure(count == 8)
 }
 
 #[test]
@@ -32,6 +31,5 @@ fn a_desk_over_tables_does_what_each_scenario_says(rt: HostRuntime) -> Result<()
         desk_plays(rt.alloc(), new_keeper(rt.alloc())?, scenario)?;
         count = count.saturating_add(1);
     }
-    assert_eq!(rt; count, 8);
-    Ok(())
+    ensure(count == 8)
 }

@@ -5,6 +5,7 @@ use super::super::setting::{Reply, queued};
 use rtgs_book::{Command, NewOrder, Refusal};
 use rtgs_desk::Desk;
 use rtgs_keeper::Keeper;
+use rtgs_tests_desks::ensure;
 use std::alloc::Global;
 use std::process::Abort;
 use std::test::Fail;
@@ -74,7 +75,7 @@ fn fills_a_queue<K: Keeper>(
     desk: &mut Desk<K>,
 ) -> Result<(), Fail> {
     for number in 1..=500u64 {
-        assert_eq!(rt; sent(rt.alloc(), desk, number)?, queued(number, number));
+        ensure(sent(rt.alloc(), desk, number)? == queued(number, number))?;
     }
     Ok(())
 }
@@ -87,8 +88,7 @@ fn a_queue_takes_500_orders(rt: HostRuntime) -> Result<(), Fail> {
     let mut desk = desk_after(rt.alloc(), "open 2024-03-04 => Opened")?;
     fills_a_queue(&rt, &mut desk)?;
     let replies = [sent(rt.alloc(), &mut desk, 501)?, desk.submit(another)];
-    assert_eq!(rt; replies, [Err(Refusal::QueueFull), queued(501, 1)]);
-    Ok(())
+    ensure(replies == [Err(Refusal::QueueFull), queued(501, 1)])
 }
 
 // What is full is refused before the posting that frees it, and is taken after it.
@@ -100,6 +100,5 @@ fn a_full_queue_is_freed_on_an_automatic_day(rt: HostRuntime) -> Result<(), Fail
     let before = sent(rt.alloc(), &mut desk, 501)?;
     follows(rt.alloc(), &mut desk, frees)?;
     let after = sent(rt.alloc(), &mut desk, 501)?;
-    assert_eq!(rt; [before, after], [Err(Refusal::QueueFull), queued(501, 1)]);
-    Ok(())
+    ensure([before, after] == [Err(Refusal::QueueFull), queued(501, 1)])
 }

@@ -13,6 +13,7 @@ use rtgs_book::{
 use rtgs_keeper::Keeper;
 use rtgs_money::{BusinessDate, Cents, Code, Reference};
 use rtgs_tables::SqlKeeper;
+use rtgs_tests_desks::ensure;
 use sqlite::Alter;
 use std::alloc::Global;
 use std::test::Fail;
@@ -223,8 +224,7 @@ fn a_book_at_its_limits_is_resolved_and_closed(rt: HostRuntime) -> Result<(), Fa
     let commands = resolving(rt.alloc())?;
     let keeper = new_keeper(rt.alloc())?;
     let replies = replies_over(rt.alloc(), keeper, (CLOSED, false), &commands)?;
-    assert_eq!(rt; replies.as_slice(), wanted.as_slice());
-    Ok(())
+    ensure(replies.as_slice() == wanted.as_slice())
 }
 
 #[test]
@@ -238,8 +238,7 @@ fn a_close_rejects_49500_orders(rt: HostRuntime) -> Result<(), Fail> {
     let commands = [Command::CutOff(date(MONDAY)?), close, close];
     let keeper = new_keeper(rt.alloc())?;
     let replies = replies_over(rt.alloc(), keeper, (OPEN, false), &commands)?;
-    assert_eq!(rt; replies.as_slice(), wanted.as_slice());
-    Ok(())
+    ensure(replies.as_slice() == wanted.as_slice())
 }
 
 /// The order of 500 cents that closes the open ring.
@@ -290,6 +289,5 @@ fn an_order_settles_with_49500_others_on_an_automatic_day(rt: HostRuntime) -> Re
     let commands = closing_twice(rt.alloc())?;
     let keeper = new_keeper(rt.alloc())?;
     let replies = replies_over(rt.alloc(), keeper, (OPEN, true), &commands)?;
-    assert_eq!(rt; replies.as_slice(), wanted.as_slice());
-    Ok(())
+    ensure(replies.as_slice() == wanted.as_slice())
 }

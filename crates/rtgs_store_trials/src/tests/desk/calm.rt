@@ -4,7 +4,7 @@ use rtgs_book::{Day, Fault, OrderState, Phase, RowChange, Rule};
 use rtgs_desk::Desk;
 use rtgs_keeper::Keeper;
 use rtgs_money::Cents;
-use rtgs_tests_desks::MemoryKeeper;
+use rtgs_tests_desks::{MemoryKeeper, ensure};
 use std::alloc::Global;
 use std::test::Fail;
 
@@ -50,8 +50,7 @@ fn fault_over_rows(alloc: Global, cents: u64, automatic: bool) -> Result<Option<
 fn nothing_waits_on_an_automatic_day_that_could_settle(rt: HostRuntime) -> Result<(), Fail> {
     let rule = Rule::Calm;
     let refused = Some(Fault::Inconsistent { rule });
-    assert_eq!(rt; fault_over_rows(rt.alloc(), 100, true)?, refused);
-    assert_eq!(rt; fault_over_rows(rt.alloc(), 101, true)?, None);
-    assert_eq!(rt; fault_over_rows(rt.alloc(), 100, false)?, None);
-    Ok(())
+    ensure(fault_over_rows(rt.alloc(), 100, true)? == refused)?;
+    ensure(fault_over_rows(rt.alloc(), 101, true)? == None)?;
+    ensure(fault_over_rows(rt.alloc(), 100, false)? == None)
 }

@@ -4,6 +4,7 @@ use super::super::scripts::{day_of, follows};
 use super::super::setting::{code, is_same};
 use rtgs_book::Refusal;
 use rtgs_statements::{Source, write_report, write_statement};
+use rtgs_tests_desks::ensure;
 use std::alloc::Global;
 use std::test::Fail;
 
@@ -101,8 +102,7 @@ fn a_statement_has_what_is_the_participants_on_the_date(rt: HostRuntime) -> Resu
     is_stated(rt.alloc(), &mut desk, "ALFA", OF_ALFA)?;
     is_stated(rt.alloc(), &mut desk, "BETA", OF_BETA)?;
     let unknown = desk.account(&zeta).err();
-    assert_eq!(rt; unknown, Some(Refusal::UnknownParticipant));
-    Ok(())
+    ensure(unknown == Some(Refusal::UnknownParticipant))
 }
 
 // Writes the day report of Monday.

@@ -5,7 +5,7 @@ use rtgs_book::{AccountReading, Day, Order, OrderState, Phase, Refusal, RowChang
 use rtgs_desk::Desk;
 use rtgs_keeper::Keeper;
 use rtgs_money::{Cents, Code, Reference, Units};
-use rtgs_tests_desks::MemoryKeeper;
+use rtgs_tests_desks::{MemoryKeeper, ensure};
 use std::alloc::Global;
 use std::test::Fail;
 
@@ -61,8 +61,7 @@ fn an_account_is_answered_with_its_queue(rt: HostRuntime) -> Result<(), Fail> {
         desk.account(&reading.participant.code),
         desk.account(&unknown),
     ];
-    assert_eq!(rt; accounts, [Ok(reading), Err(Refusal::UnknownParticipant)]);
-    Ok(())
+    ensure(accounts == [Ok(reading), Err(Refusal::UnknownParticipant)])
 }
 
 // ABLE is added last, and comes first. ALFA is below 0 within its limit, and two of its orders wait.
@@ -110,8 +109,7 @@ fn a_queue_is_answered_in_its_order(rt: HostRuntime) -> Result<(), Fail> {
         has_queue(&desk, &orders[0].sender, &[orders[0], orders[2]]),
         has_queue(&desk, &unknown, &[]),
     ];
-    assert_eq!(rt; answers, [Ok(true), Err(Refusal::UnknownParticipant)]);
-    Ok(())
+    ensure(answers == [Ok(true), Err(Refusal::UnknownParticipant)])
 }
 
 // What the desk tells of the order with this reference, from one sender after another.
@@ -139,6 +137,5 @@ fn an_order_is_answered_by_its_name(rt: HostRuntime) -> Result<(), Fail> {
         Err(Refusal::UnknownOrder),
         Err(Refusal::UnknownParticipant),
     ];
-    assert_eq!(rt; answers, wanted);
-    Ok(())
+    ensure(answers == wanted)
 }

@@ -7,7 +7,7 @@ use rtgs_book::{Account, Core, Day, Fault, Mark, Order, OrderState, Phase, RowCh
 use rtgs_keeper::Keeper;
 use rtgs_money::Cents;
 use rtgs_tables::SqlKeeper;
-use rtgs_tests_desks::MemoryKeeper;
+use rtgs_tests_desks::{MemoryKeeper, ensure};
 use sqlite::MemStore;
 use std::alloc::Global;
 use std::fmt::Write;
@@ -115,12 +115,11 @@ fn has_the_rows(core: &Core) -> Result<bool, Fail> {
 // The core is that of the rows: the participants and the orders to the last field, and the rest in words.
 fn tells_the_core<K: Keeper>(rt: &(impl Abort + AllocGlobal), keeper: &mut K) -> Result<(), Fail> {
     let core = keeper.core(rt.alloc())?;
-    assert!(rt; has_the_rows(&core)?);
-    assert_eq!(rt;
-        core_in_words(rt.alloc(), &core)?.as_str(),
-        "ALFA 70, BETA 30, 2 Queued, 3 Held, Open true, next 2 4 2"
-    );
-    Ok(())
+    ensure(has_the_rows(&core)?)?;
+    ensure(
+        core_in_words(rt.alloc(), &core)?.as_str()
+            == "ALFA 70, BETA 30, 2 Queued, 3 Held, Open true, next 2 4 2",
+    )
 }
 
 #[test]
@@ -205,8 +204,7 @@ fn a_book_that_breaks_a_rule_has_no_core(rt: HostRuntime) -> Result<(), Fail> {
     let mut keeper = kept(rt.alloc(), in_memory(rt.alloc())?, &closes)?;
     let rule = Rule::Queues;
     let refused = keeper.core(rt.alloc()).err();
-    assert_eq!(rt; refused, Some(Fault::Inconsistent { rule }));
-    Ok(())
+    ensure(refused == Some(Fault::Inconsistent { rule }))
 }
 
 // What a keeper fails with once a day is closed in it, and is automatic all the same.
@@ -225,6 +223,5 @@ fn a_closed_day_that_is_automatic_has_no_core(rt: HostRuntime) -> Result<(), Fai
     let wanted = Some(Fault::Inconsistent { rule });
     let in_memory = fault_of_an_automatic_close(alloc, &mut MemoryKeeper::new(alloc))?;
     let in_tables = fault_of_an_automatic_close(alloc, &mut new_keeper(alloc)?)?;
-    assert_eq!(rt; (in_memory, in_tables), (wanted, wanted));
-    Ok(())
+    ensure((in_memory, in_tables) == (wanted, wanted))
 }

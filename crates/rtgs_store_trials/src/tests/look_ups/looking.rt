@@ -5,6 +5,7 @@ use rtgs_book::Fault;
 use rtgs_keeper::Keeper;
 use rtgs_money::{BusinessDate, Reference};
 use rtgs_tables::SqlKeeper;
+use rtgs_tests_desks::ensure;
 use sqlite::{Alter, MemStore};
 use std::alloc::Global;
 use std::test::Fail;
@@ -177,6 +178,5 @@ fn a_row_in_no_form_fails_the_keeper(rt: HostRuntime) -> Result<(), Fail> {
     let (name, monday) = (reference("P-1")?, date(MONDAY)?);
     let mut keeper = keeper_after(rt.alloc(), "UPDATE posting SET cents = 0")?;
     let faults = faults_of(rt.alloc(), &mut keeper, &name, monday);
-    assert_eq!(rt; faults, [Some(Fault::StoreFault); 3]);
-    Ok(())
+    ensure(faults == [Some(Fault::StoreFault); 3])
 }

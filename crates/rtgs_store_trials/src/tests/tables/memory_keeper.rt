@@ -3,7 +3,7 @@ use super::super::setting::{MONDAY, code, date, kept, order, posting};
 use super::{has_two_banks, with_two_banks};
 use rtgs_book::{Book, Day, Fault, Mark, Order, OrderState, Participant, Phase, RowChange, Rule};
 use rtgs_money::{Cents, Credit};
-use rtgs_tests_desks::MemoryKeeper;
+use rtgs_tests_desks::{MemoryKeeper, ensure};
 use std::alloc::Global;
 use std::test::Fail;
 
@@ -22,15 +22,13 @@ fn new_book(alloc: Global) -> Result<Book, Fail> {
 fn a_new_book_is_empty_and_closed(rt: HostRuntime) -> Result<(), Fail> {
     let book = new_book(rt.alloc())?;
     let (banks, orders) = (book.participants.len(), book.orders.len());
-    assert_eq!(rt; (banks, orders, book.day.phase), (0, 0, Phase::Closed));
-    Ok(())
+    ensure((banks, orders, book.day.phase) == (0, 0, Phase::Closed))
 }
 
 #[test]
 fn what_is_committed_is_loaded(rt: HostRuntime) -> Result<(), Fail> {
     let book = two_banks(rt.alloc())?.load(rt.alloc())?;
-    assert!(rt; has_two_banks(&book)?);
-    Ok(())
+    ensure(has_two_banks(&book)?)
 }
 
 /// The rows of an open Monday on which two orders of 300 cents came, of which the first is settled.
@@ -80,8 +78,7 @@ fn an_order_is_settled(rt: HostRuntime) -> Result<(), Fail> {
         book.day.phase,
     );
     let wanted = [OrderState::Settled(1), OrderState::Queued];
-    assert_eq!(rt; found, (Some(wanted), 1, Phase::Open));
-    Ok(())
+    ensure(found == (Some(wanted), 1, Phase::Open))
 }
 
 /// The credits of two participants, if there are two.
@@ -101,8 +98,7 @@ fn a_credit_is_set(rt: HostRuntime) -> Result<(), Fail> {
     };
     let book = book_after(rt.alloc(), &[row])?;
     let found = credits(book.participants.as_slice());
-    assert_eq!(rt; found, Some([Credit::NONE, credit]));
-    Ok(())
+    ensure(found == Some([Credit::NONE, credit]))
 }
 
 #[test]
@@ -111,6 +107,5 @@ fn an_unsound_book_is_not_loaded(rt: HostRuntime) -> Result<(), Fail> {
     let mut keeper = kept(rt.alloc(), two_banks(rt.alloc())?, &[row])?;
     let fault = keeper.load(rt.alloc()).err();
     let rule = Rule::PostingNumbers;
-    assert_eq!(rt; fault, Some(Fault::Inconsistent { rule }));
-    Ok(())
+    ensure(fault == Some(Fault::Inconsistent { rule }))
 }

@@ -9,6 +9,7 @@ use super::{
 use rtgs_book::Fault;
 use rtgs_sql_loading::load_book;
 use rtgs_tables::{SqlKeeper, migrate};
+use rtgs_tests_desks::ensure;
 use sqlite::{Alter, Connection};
 use std::alloc::Global;
 use std::test::Fail;
@@ -243,21 +244,13 @@ fn new_book_migrated(alloc: Global, made: &str) -> Result<String, Fail> {
 
 #[test]
 fn a_new_book_is_migrated(rt: HostRuntime) -> Result<(), Fail> {
-    assert_eq!(rt;
-        new_book_migrated(rt.alloc(), FIRST_VERSION)?.as_str(),
-        "sound"
-    );
-    assert_eq!(rt;
-        new_book_migrated(rt.alloc(), SECOND_VERSION)?.as_str(),
-        "sound"
-    );
-    Ok(())
+    ensure(new_book_migrated(rt.alloc(), FIRST_VERSION)?.as_str() == "sound")?;
+    ensure(new_book_migrated(rt.alloc(), SECOND_VERSION)?.as_str() == "sound")
 }
 
 #[test]
 fn an_empty_database_is_refused(rt: HostRuntime) -> Result<(), Fail> {
     let conn = Connection::open_in_memory(rt.alloc())?;
     let answer = migrated(rt.alloc(), SqlKeeper::open(conn))?;
-    assert_eq!(rt; answer.as_str(), "NotADeskFile");
-    Ok(())
+    ensure(answer.as_str() == "NotADeskFile")
 }

@@ -3,6 +3,7 @@ use super::{posts, two_banks};
 use rtgs_book::{Change, Fault};
 use rtgs_keeper::{CommitFault, Keeper};
 use rtgs_tables::SqlKeeper;
+use rtgs_tests_desks::ensure;
 use sqlite::Alter;
 use std::alloc::Global;
 use std::process::{Abort, Command, Output};
@@ -95,8 +96,7 @@ fn go_on_with_memory(rt: &(impl Abort + AllocGlobal)) -> Result<(), Fail> {
     let mut keeper = two_banks(rt.alloc())?;
     let found = faults_and_postings(rt.alloc(), &mut keeper, &change)?;
     let wanted = (Some(Fault::OutOfMemory), Some(CommitFault::OutOfMemory), 2);
-    assert_eq!(rt; found, wanted);
-    Ok(())
+    ensure(found == wanted)
 }
 
 #[test]
@@ -127,6 +127,5 @@ fn lack_of_memory_is_never_a_fault_of_the_store(rt: HostRuntime) -> Result<(), F
         "{:?}",
         std::str::from_utf8(ran.stderr.as_slice())
     );
-    assert!(rt; fs::metadata(&rt, SEEN).is_ok());
-    Ok(())
+    ensure(fs::metadata(&rt, SEEN).is_ok())
 }

@@ -3,6 +3,7 @@ use super::{posts, two_banks};
 use rtgs_keeper::Keeper;
 use rtgs_money::{BusinessDate, Code, Reference};
 use rtgs_tables::SqlKeeper;
+use rtgs_tests_desks::ensure;
 use sqlite::{Alter, Connection, MemStore};
 use std::alloc::Global;
 use std::test::Fail;
@@ -62,7 +63,7 @@ fn no_call_limits_the_steps_of_later_statements(rt: HostRuntime) -> Result<(), F
     for which in 0..CALLS {
         let mut conn = counted_after(rt.alloc(), which)?;
         conn.set_step_limit(Some(200_000));
-        assert!(rt; conn.execute_batch(COUNT).is_err());
+        ensure(conn.execute_batch(COUNT).is_err())?;
     }
     Ok(())
 }

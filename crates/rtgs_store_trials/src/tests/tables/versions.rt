@@ -7,6 +7,7 @@ use rtgs_desk::Desk;
 use rtgs_keeper::Keeper;
 use rtgs_sql_loading::load_book;
 use rtgs_tables::SqlKeeper;
+use rtgs_tests_desks::ensure;
 use sqlite::MemStore;
 use std::alloc::Global;
 use std::test::Fail;
@@ -132,8 +133,7 @@ fn faults(alloc: Global, made: &str) -> Result<[Option<Fault>; 3], Fail> {
 #[test]
 fn a_desk_is_opened_over_the_newest_version_alone(rt: HostRuntime) -> Result<(), Fail> {
     let refused = [Some(Fault::NotADeskFile); 3];
-    assert_eq!(rt; faults(rt.alloc(), FIRST_VERSION)?, refused);
-    assert_eq!(rt; faults(rt.alloc(), SECOND_VERSION)?, refused);
-    assert_eq!(rt; faults(rt.alloc(), NEWEST_VERSION)?, [None; 3]);
-    Ok(())
+    ensure(faults(rt.alloc(), FIRST_VERSION)? == refused)?;
+    ensure(faults(rt.alloc(), SECOND_VERSION)? == refused)?;
+    ensure(faults(rt.alloc(), NEWEST_VERSION)? == [None; 3])
 }

@@ -4,6 +4,7 @@ use super::books::{ResolverInput, SMALL_BOOKS, chain, mixed, ring, small};
 use super::lengths_of;
 use super::plain::greatest_plainly;
 use rtgs_gridlock::{OutOfMemory, Payment, Position};
+use rtgs_tests_desks::ensure;
 use std::alloc::Global;
 use std::process::Abort;
 use std::test::Fail;
@@ -32,7 +33,7 @@ fn book(alloc: Global, rows: &[(i64, i64, &[(usize, u64)])]) -> Result<ResolverI
 fn compared(rt: &impl Abort, alloc: Global, book: &ResolverInput) -> Result<usize, Fail> {
     let found = lengths_of(alloc, &book.positions, &book.queues)?;
     let plain = greatest_plainly(alloc, &book.positions, book.payments.as_slice())?;
-    assert_eq!(rt; found, plain);
+    ensure(found == plain)?;
     let settled = found
         .iter()
         .try_fold(0usize, |sum, length| sum.checked_add(*length));
@@ -42,17 +43,15 @@ fn compared(rt: &impl Abort, alloc: Global, book: &ResolverInput) -> Result<usiz
 #[test]
 fn want_of_memory_is_printed(rt: HostRuntime) -> Result<(), Fail> {
     let printed = format!(in rt.alloc(); "{OutOfMemory}")?;
-    assert_eq!(rt; printed.as_str(), "out of memory");
-    Ok(())
+    ensure(printed.as_str() == "out of memory")
 }
 
 #[test]
 fn no_participants(rt: HostRuntime) -> Result<(), Fail> {
     let book = ResolverInput::new(rt.alloc());
-    assert!(rt; book.positions.is_empty());
-    assert!(rt; book.queues.is_empty());
-    assert!(rt; lengths_of(rt.alloc(), &book.positions, &book.queues)?.is_empty());
-    Ok(())
+    ensure(book.positions.is_empty())?;
+    ensure(book.queues.is_empty())?;
+    ensure(lengths_of(rt.alloc(), &book.positions, &book.queues)?.is_empty())
 }
 
 /// A payment to oneself moves nothing.
@@ -61,8 +60,7 @@ fn payment_to_oneself_settles(rt: HostRuntime) -> Result<(), Fail> {
     let rows = [(0, 0, [(0, 100), (1, 1)].as_slice()), (0, 0, [].as_slice())];
     let book = book(rt.alloc(), &rows)?;
     let found = lengths_of(rt.alloc(), &book.positions, &book.queues)?;
-    assert_eq!(rt; found.as_slice(), [1, 0].as_slice());
-    Ok(())
+    ensure(found.as_slice() == [1, 0].as_slice())
 }
 
 /// The largest amounts and balances that the types hold do not overflow.
@@ -78,8 +76,7 @@ fn largest_amounts(rt: HostRuntime) -> Result<(), Fail> {
     ];
     let book = book(rt.alloc(), &rows)?;
     let found = lengths_of(rt.alloc(), &book.positions, &book.queues)?;
-    assert_eq!(rt; found.as_slice(), [2, 1].as_slice());
-    Ok(())
+    ensure(found.as_slice() == [2, 1].as_slice())
 }
 
 /// Every book of three participants with a cent or none each, and at most two payments in each
@@ -92,15 +89,14 @@ fn all_small_books(rt: HostRuntime) -> Result<(), Fail> {
         let here = compared(&rt, rt.alloc(), &small(rt.alloc(), number)?)?;
         settled = settled.checked_add(here).ok_or("too many payments")?;
     }
-    assert_eq!(rt; settled, 246294);
-    Ok(())
+    ensure(settled == 246294)
 }
 
 #[test]
 fn rings(rt: HostRuntime) -> Result<(), Fail> {
     for (participants, each) in [(1, 1), (2, 3), (7, 20), (100, 500)] {
         let settled = compared(&rt, rt.alloc(), &ring(rt.alloc(), participants, each)?)?;
-        assert_eq!(rt; settled, participants * each);
+        ensure(settled == participants * each)?;
     }
     Ok(())
 }
@@ -110,7 +106,7 @@ fn rings(rt: HostRuntime) -> Result<(), Fail> {
 fn chains_without_money(rt: HostRuntime) -> Result<(), Fail> {
     for (participants, each) in [(2, 3), (10, 10), (100, 500)] {
         let settled = compared(&rt, rt.alloc(), &chain(rt.alloc(), participants, each, 0)?)?;
-        assert_eq!(rt; settled, 0);
+        ensure(settled == 0)?;
     }
     Ok(())
 }
@@ -119,7 +115,7 @@ fn chains_without_money(rt: HostRuntime) -> Result<(), Fail> {
 fn chains_with_money_at_the_top(rt: HostRuntime) -> Result<(), Fail> {
     for (each, money, expected) in [(500, 500, 49500), (500, 498, 49302), (30, 7, 693)] {
         let settled = compared(&rt, rt.alloc(), &chain(rt.alloc(), 100, each, money)?)?;
-        assert_eq!(rt; settled, expected);
+        ensure(settled == expected)?;
     }
     Ok(())
 }
@@ -132,8 +128,7 @@ fn mixed_books(rt: HostRuntime) -> Result<(), Fail> {
         let here = compared(&rt, rt.alloc(), &mixed(rt.alloc(), 12, 15, stride, 20)?)?;
         settled = settled.checked_add(here).ok_or("too many payments")?;
     }
-    assert_eq!(rt; settled, 13057);
+    ensure(settled == 13057)?;
     let large = mixed(rt.alloc(), 100, 500, 37, 300)?;
-    assert_eq!(rt; compared(&rt, rt.alloc(), &large)?, 47714);
-    Ok(())
+    ensure(compared(&rt, rt.alloc(), &large)? == 47714)
 }

@@ -1,7 +1,8 @@
 //! Cents as text, and sums in units.
-use super::super::script::{ensure, lines_of, sides};
+use super::super::script::{lines_of, sides};
 use super::forms::{Form, reads};
 use rtgs_money::{Amount, Cents, Credit, PostingAmount, Units};
+use rtgs_tests_desks::ensure;
 use std::alloc::Global;
 use std::test::Fail;
 
@@ -151,7 +152,7 @@ fn cents_outside_the_range_make_no_value(rt: HostRuntime) -> Result<(), Fail> {
     for line in lines_of(NO_POSTINGS)? {
         is_no_posting(line)?;
     }
-    assert!(rt; Credit::from_cents(100_000_000_000_001).is_none());
+    ensure(Credit::from_cents(100_000_000_000_001).is_none())?;
     amounts_rise()?;
     limits_make_values()
 }

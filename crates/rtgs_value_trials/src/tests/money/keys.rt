@@ -1,7 +1,8 @@
 //! Keys and their digests, by `sha256sum` of the GNU core utilities.
-use super::super::script::{ensure, is, lines_of, sides};
+use super::super::script::{lines_of, sides};
 use super::forms::{Form, reads};
 use rtgs_money::{Key, KeyDigest};
+use rtgs_tests_desks::{ensure, is};
 use sha2::{Digest, Sha256};
 use std::alloc::Global;
 use std::fmt::Write;

@@ -1,8 +1,9 @@
 //! Codes, references and names, and the refusals' numbers.
-use super::super::script::{ensure, is, lines_of, sides};
+use super::super::script::{lines_of, sides};
 use super::super::setting::code;
 use super::forms::{Form, reads};
 use rtgs_money::{BusinessDate, Code, Key, Lexical, Name, Reference};
+use rtgs_tests_desks::{ensure, is};
 use std::alloc::Global;
 use std::test::Fail;
 

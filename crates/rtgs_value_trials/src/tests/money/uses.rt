@@ -10,6 +10,7 @@ ghost use Rattle.rtgs_money.specs.Units.{units_text};
 use rtgs_money::{
     Amount, BusinessDate, Code, Credit, Key, Lexical, Name, PostingAmount, Reference, Units,
 };
+use rtgs_tests_desks::{ensure, is};
 use std::alloc::{AllocError, AllocFailed, Global};
 use std::collections::BTreeMap;
 use std::test::Fail;
@@ -123,63 +124,54 @@ fn put(
 #[test]
 fn an_amount_reads_back(rt: HostRuntime) -> Result<(), Fail> {
     let amount = Amount::new(12_500);
-    assert_eq!(rt; amount_again(rt.alloc(), amount)?, Ok(amount));
-    Ok(())
+    ensure(amount_again(rt.alloc(), amount)? == Ok(amount))
 }
 
 #[test]
 fn a_postings_amount_reads_back(rt: HostRuntime) -> Result<(), Fail> {
     let posting = PostingAmount::read(b"-1")?;
-    assert_eq!(rt; posting_again(rt.alloc(), posting)?, Ok(posting));
-    Ok(())
+    ensure(posting_again(rt.alloc(), posting)? == Ok(posting))
 }
 
 #[test]
 fn a_credit_reads_back(rt: HostRuntime) -> Result<(), Fail> {
-    assert_eq!(rt; credit_again(rt.alloc(), Credit::NONE)?, Ok(Credit::NONE));
-    Ok(())
+    ensure(credit_again(rt.alloc(), Credit::NONE)? == Ok(Credit::NONE))
 }
 
 #[test]
 fn a_code_reads_back(rt: HostRuntime) -> Result<(), Fail> {
     let code = Code::read(b"ALFA")?;
-    assert_eq!(rt; code_again(rt.alloc(), code)?, Ok(code));
-    Ok(())
+    ensure(code_again(rt.alloc(), code)? == Ok(code))
 }
 
 #[test]
 fn a_reference_reads_back(rt: HostRuntime) -> Result<(), Fail> {
     let reference = Reference::read(b"A-1")?;
-    assert_eq!(rt; reference_again(rt.alloc(), reference)?, Ok(reference));
-    Ok(())
+    ensure(reference_again(rt.alloc(), reference)? == Ok(reference))
 }
 
 #[test]
 fn a_name_reads_back(rt: HostRuntime) -> Result<(), Fail> {
     let name = Name::read(b"Alfa Bank")?;
-    assert_eq!(rt; name_again(rt.alloc(), name)?, Ok(name));
-    Ok(())
+    ensure(name_again(rt.alloc(), name)? == Ok(name))
 }
 
 #[test]
 fn a_key_reads_back(rt: HostRuntime) -> Result<(), Fail> {
     let key = Key::read(b"0000000000000000000000000000000a")?;
-    assert!(rt; key_again(rt.alloc(), key)? == Ok(key));
-    Ok(())
+    ensure(key_again(rt.alloc(), key)? == Ok(key))
 }
 
 #[test]
 fn a_date_reads_back(rt: HostRuntime) -> Result<(), Fail> {
     let date = BusinessDate::read(b"2024-03-04")?;
-    assert_eq!(rt; date_again(rt.alloc(), date)?, Ok(date));
-    Ok(())
+    ensure(date_again(rt.alloc(), date)? == Ok(date))
 }
 
 #[test]
 fn a_code_and_a_sum_fill_their_columns(rt: HostRuntime) -> Result<(), Fail> {
     let line = columns(rt.alloc(), Code::read(b"ALFA")?, Units::new(-100))?;
-    assert_eq!(rt; line.as_str(), "ALFA                             -1.00");
-    Ok(())
+    is(line.as_str(), "ALFA                             -1.00")
 }
 
 #[test]
@@ -187,24 +179,21 @@ fn an_amount_and_a_date_fill_their_columns(rt: HostRuntime) -> Result<(), Fail> 
     let amount = Amount::new(7);
     let date = BusinessDate::read(b"2024-03-04")?;
     let line = format!(in rt.alloc(); "{amount:>3}|{date:<12}|")?;
-    assert_eq!(rt; line.as_str(), "  7|2024-03-04  |");
-    Ok(())
+    is(line.as_str(), "  7|2024-03-04  |")
 }
 
 #[test]
 fn codes_are_compared(rt: HostRuntime) -> Result<(), Fail> {
     let code = Code::read(b"ALFA")?;
-    assert!(rt; is_same(code, Code::read(b"ALFA")?));
-    assert!(rt; !is_same(code, Code::read(b"ALFB")?));
-    Ok(())
+    let other = Code::read(b"ALFB")?;
+    ensure(is_same(code, code) && !is_same(code, other))
 }
 
 #[test]
 fn dates_are_compared(rt: HostRuntime) -> Result<(), Fail> {
     let monday = BusinessDate::read(b"2024-03-04")?;
-    assert!(rt; is_earlier(BusinessDate::read(b"2024-02-29")?, monday));
-    assert!(rt; !is_earlier(monday, monday));
-    Ok(())
+    let before = BusinessDate::read(b"2024-02-29")?;
+    ensure(is_earlier(before, monday) && !is_earlier(monday, monday))
 }
 
 #[test]
@@ -212,6 +201,5 @@ fn an_amount_is_found_by_its_code(rt: HostRuntime) -> Result<(), Fail> {
     let code = Code::read(b"ALFA")?;
     let mut map = BTreeMap::new(rt.alloc());
     put(&mut map, code, Amount::new(1))?;
-    assert_eq!(rt; map.get(&code).copied(), Some(Amount::new(1)));
-    Ok(())
+    ensure(map.get(&code).copied() == Some(Amount::new(1)))
 }

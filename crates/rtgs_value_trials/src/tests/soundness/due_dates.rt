@@ -1,6 +1,7 @@
 //! Books with orders for later days, and the rule that each breaks.
-use super::super::script::{ensure, is, lines_of, sides};
+use super::super::script::{lines_of, sides};
 use super::judged::{BANKS, are_judged, judged};
+use rtgs_tests_desks::{ensure, is};
 use std::alloc::Global;
 use std::fmt::Write;
 use std::test::Fail;

@@ -1,8 +1,9 @@
 //! The rules that books break, by number, a book a line.
 use super::super::books::book_of;
-use super::super::script::{ensure, lines_of, sides};
+use super::super::script::{lines_of, sides};
 use rtgs_book::Fault;
 use rtgs_soundness::check;
+use rtgs_tests_desks::ensure;
 use std::alloc::Global;
 use std::fmt::Write;
 use std::test::Fail;

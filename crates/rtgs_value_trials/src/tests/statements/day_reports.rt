@@ -2,6 +2,7 @@
 use super::super::books::book_of;
 use super::super::setting::{MONDAY, TUESDAY};
 use super::report;
+use rtgs_tests_desks::ensure;
 use std::test::Fail;
 
 /// Five queued orders, of which a resolution settled two. The resolution has a mark, and there is one of the next day.
@@ -33,9 +34,9 @@ order 3 BETA GAMA B-2 5 2024-03-04 rejected
 #[test]
 fn resolution_is_reported(rt: HostRuntime) -> Result<(), Fail> {
     let text = report(rt.alloc(), MONDAY, book_of(rt.alloc(), CASCADE)?)?;
-    assert_eq!(rt;
-        text.as_str(),
-        "report 2024-03-04
+    ensure(
+        text.as_str()
+            == "report 2024-03-04
 ALFA                               0.10                           0.60                           0.50
 BETA                               0.00                           0.50                           0.60
 GAMA                               0.00                           0.00                           0.00
@@ -45,17 +46,16 @@ held               0                           0.00
 withdrawn          0                           0.00
 rejected           0                           0.00
 marks              1
-"
-    );
-    Ok(())
+",
+    )
 }
 
 #[test]
 fn other_dates_are_left_out(rt: HostRuntime) -> Result<(), Fail> {
     let text = report(rt.alloc(), TUESDAY, book_of(rt.alloc(), CASCADE)?)?;
-    assert_eq!(rt;
-        text.as_str(),
-        "report 2024-03-05
+    ensure(
+        text.as_str()
+            == "report 2024-03-05
 ALFA                               0.00                           0.00                           0.00
 BETA                               0.00                           0.00                           0.00
 GAMA                               0.00                           0.00                           0.00
@@ -65,17 +65,16 @@ held               0                           0.00
 withdrawn          0                           0.00
 rejected           0                           0.00
 marks              1
-"
-    );
-    Ok(())
+",
+    )
 }
 
 #[test]
 fn unsettled_orders_are_counted_by_where_they_stand(rt: HostRuntime) -> Result<(), Fail> {
     let text = report(rt.alloc(), MONDAY, book_of(rt.alloc(), UNSETTLED)?)?;
-    assert_eq!(rt;
-        text.as_str(),
-        "report 2024-03-04
+    ensure(
+        text.as_str()
+            == "report 2024-03-04
 ALFA                               0.00                           0.00                           0.00
 BETA                               0.00                           0.00                           0.00
 GAMA                 -10000000000000.00                           0.00                           0.00
@@ -85,9 +84,8 @@ held               0                           0.00
 withdrawn          1                           0.60
 rejected           2                           0.20
 marks              0
-"
-    );
-    Ok(())
+",
+    )
 }
 
 /// Orders with due dates: one is held until Tuesday and one was taken back before it, one that was held until Monday is
@@ -108,9 +106,9 @@ mark 1 2024-03-04 1 10
 #[test]
 fn held_orders_are_reported_on_their_due_dates(rt: HostRuntime) -> Result<(), Fail> {
     let text = report(rt.alloc(), TUESDAY, book_of(rt.alloc(), DUE)?)?;
-    assert_eq!(rt;
-        text.as_str(),
-        "report 2024-03-05
+    ensure(
+        text.as_str()
+            == "report 2024-03-05
 ALFA                               0.00                           0.00                           0.00
 BETA                               0.00                           0.00                           0.00
 settled            0                           0.00
@@ -119,17 +117,16 @@ held               2                           4.60
 withdrawn          1                           0.07
 rejected           0                           0.00
 marks              0
-"
-    );
-    Ok(())
+",
+    )
 }
 
 #[test]
 fn orders_that_entered_are_reported_on_the_day_they_did(rt: HostRuntime) -> Result<(), Fail> {
     let text = report(rt.alloc(), MONDAY, book_of(rt.alloc(), DUE)?)?;
-    assert_eq!(rt;
-        text.as_str(),
-        "report 2024-03-04
+    ensure(
+        text.as_str()
+            == "report 2024-03-04
 ALFA                               0.00                           0.10                           0.00
 BETA                               0.00                           0.00                           0.10
 settled            1                           0.10
@@ -138,9 +135,8 @@ held               0                           0.00
 withdrawn          0                           0.00
 rejected           0                           0.00
 marks              1
-"
-    );
-    Ok(())
+",
+    )
 }
 
 #[test]
@@ -151,16 +147,15 @@ fn a_hundred_participants_have_a_line_each(rt: HostRuntime) -> Result<(), Fail> 
     }
     records.push_str("order 1 B100 B199 A-1 1000000000000 2024-03-04 1")?;
     let text = report(rt.alloc(), MONDAY, book_of(rt.alloc(), records.as_str())?)?;
-    assert_eq!(rt; text.as_str().lines().count(), 107);
-    assert!(rt;
+    ensure(text.as_str().lines().count() == 107)?;
+    ensure(
         text.as_str().contains(
-            "\nB100                               0.00                 10000000000.00                           0.00\n"
-        )
-    );
-    assert!(rt;
+            "\nB100                               0.00                 10000000000.00                           0.00\n",
+        ),
+    )?;
+    ensure(
         text.as_str().contains(
-            "\nB199                               0.00                           0.00                 10000000000.00\n"
-        )
-    );
-    Ok(())
+            "\nB199                               0.00                           0.00                 10000000000.00\n",
+        ),
+    )
 }

@@ -1,10 +1,10 @@
 //! Reads that are refused, each in turn: what was written is a beginning of the text.
 use super::super::books::book_of;
-use super::super::script::ensure;
 use super::super::setting::{MONDAY, code, date};
 use super::shelf::{Shelf, Trouble};
 use rtgs_book::Refusal;
 use rtgs_statements::{BookTextFault, write_report, write_statement};
+use rtgs_tests_desks::ensure;
 use std::alloc::Global;
 use std::test::Fail;
 
@@ -96,15 +96,14 @@ fn whole_report(alloc: Global) -> Result<Tried, Fail> {
 #[test]
 fn third_posting_that_is_refused_leaves_a_title_and_two_rows(rt: HostRuntime) -> Result<(), Fail> {
     let tried = statement(rt.alloc(), failing(rt.alloc(), 2, Trouble::StoreFault)?)?;
-    assert!(rt; tried.is_by(Trouble::StoreFault));
-    assert_eq!(rt;
-        std::str::from_utf8(tried.out.as_slice())?,
-        "statement ALFA 2024-03-04
+    ensure(tried.is_by(Trouble::StoreFault))?;
+    ensure(
+        std::str::from_utf8(tried.out.as_slice())?
+            == "statement ALFA 2024-03-04
 posting    000000001 P-1              -                        2.50         -
 posting    000000002 P-2              -                       -0.50         -
-"
-    );
-    Ok(())
+",
+    )
 }
 
 // The lines of ALFA's statement that are written before so many reads went well: the title, a row for each posting,
