@@ -1,9 +1,11 @@
 """Crates proved side by side where neither stands on the other, as many at once as there are processors and memory for.
 
-What is proved already is not proved again. Of a crate that is not proved the log is shown.
+The crate with the longest chain of proofs behind it, in the minutes that the last whole gate took for each, is given
+all processors. What is proved already is not proved again. Of a crate that is not proved the log is shown.
 """
 import copy
 import os
+import re
 import sys
 import tempfile
 import threading
@@ -14,8 +16,30 @@ import kit
 
 # what a proof takes of memory, as a part of what rt reckons: a quarter at most, as measured
 MEMORY = 1 / 3
-# how much a proof gives way that fewer crates wait for
+# how much a proof gives way that a shorter chain waits for
 PATIENCE = 10
+# a crate's line in the gate's table, and what a crate weighs that has none
+PROOF = re.compile(r"^(\w+) +([0-9]+\.[0-9]) ", re.M)
+USUAL = 1.0
+
+
+def minutes_of_proofs(top=kit.TOP):
+    """Returns the lane-minutes that the last whole gate took for each crate's proof, as far as its table is there."""
+    try:
+        with open(f"{top}/evidence/gate.txt", encoding="utf-8") as it:
+            return {name: float(minutes) for name, minutes in PROOF.findall(it.read())}
+    except OSError:
+        return {}
+
+
+def chains(crates, minutes):
+    """Returns for each crate, given lowest first, the minutes of the longest chain that begins with its own proof."""
+    weights = {it.name: minutes.get(it.name, USUAL) for it in crates}
+    longest = dict(weights)
+    for crate in reversed(crates):
+        for low in kit.below(crate):
+            longest[low.name] = max(longest[low.name], weights[low.name] + longest[crate.name])
+    return weights, longest
 
 
 class Proofs:
@@ -24,11 +48,8 @@ class Proofs:
     def __init__(self, crates, tell):
         self.crates, self.tell, self.guard = crates, tell, threading.Lock()
         self.start, self.proved = time.monotonic(), 0
-        self.behind = {it.name: 0 for it in crates}
-        for crate in reversed(crates):
-            for low in kit.below(crate):
-                self.behind[low.name] = max(self.behind[low.name], self.behind[crate.name] + 1)
-        self.left = set(self.behind)
+        self.weights, self.chains = chains(crates, minutes_of_proofs())
+        self.left = set(self.chains)
 
     def are_made(self):
         """Proves what is not proved already, and returns whether all is."""
@@ -37,13 +58,14 @@ class Proofs:
 
     def tasks(self):
         """Returns the crates as kit.in_lanes takes them: what each waits for, its work, its memory, and its call."""
-        return {
-            it.name: ([low.name for low in kit.below(it)], 1, MEMORY * kit.memory_of(it), self.task(it))
-            for it in self.crates
-        }
+        return {it.name: ([low.name for low in kit.below(it)], *self.needs(it), self.task(it)) for it in self.crates}
+
+    def needs(self, crate):
+        """Returns the minutes and the memory that a crate's proof is reckoned to take."""
+        return self.weights[crate.name], MEMORY * kit.memory_of(crate)
 
     def task(self, crate):
-        """Returns a call that proves the crate with so many jobs once the crates below it are proved."""
+        """Returns a call that proves the crate with a number of jobs once the crates below it are proved."""
 
         def call(given, jobs):
             if not all(given[it.name] for it in kit.below(crate)):
@@ -56,9 +78,9 @@ class Proofs:
         return call
 
     def is_first(self, crate):
-        """Returns whether no other crate that is left has more crates one after another waiting for it."""
+        """Returns whether no longer chain of proofs begins with another crate that is left."""
         with self.guard:
-            return self.behind[crate.name] == max(self.behind[it] for it in self.left)
+            return self.chains[crate.name] == max(self.chains[it] for it in self.left)
 
     def prove(self, crate, jobs):
         """Returns whether the crate is proved, and tells it."""

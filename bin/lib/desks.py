@@ -1,6 +1,7 @@
 """What the checks and measures of a built program share: the program and its runs, a small book, a server over it, the
 stock sqlite3, and libraries of C."""
 import argparse
+import datetime
 import json
 import os
 import re
@@ -12,6 +13,7 @@ import sys
 import tempfile
 
 import kit
+from lib import unproved
 
 HERE = os.path.dirname(os.path.realpath(__file__))
 PROGRAMS = f"{kit.TOP}/crates/desk/out"
@@ -58,10 +60,37 @@ def room():
 # The program
 
 
-def build():
-    """Has the program built where it is missing or older than its sources."""
-    if subprocess.run([f"{kit.TOP}/bin/desk", "--version"], stdout=subprocess.DEVNULL, check=False).returncode:
+def program_of(*words):
+    """Returns the path of the program that is to be run, which is built where there is none that is current."""
+    how = {"stdout": subprocess.PIPE, "text": True, "check": False}
+    ran = subprocess.run([f"{kit.TOP}/bin/lib/program", *words], **how)
+    if ran.returncode:
         raise Broken("the program is not built")
+    return ran.stdout.strip()
+
+
+def build():
+    """Has the program proved and built where it is missing or older than its sources."""
+    program_of("--proved")
+    refuse_one_not_proved()
+
+
+def choose():
+    """Takes the program that bin/desk takes, which may be one that is not proved."""
+    global DESK
+    DESK = program_of()
+
+
+def is_proved():
+    """Returns whether the program does not say of itself that it is not proved."""
+    how = {"stdout": subprocess.PIPE, "stderr": subprocess.STDOUT, "text": True, "check": False}
+    return unproved.SAID not in subprocess.run([DESK, "--version"], **how).stdout
+
+
+def refuse_one_not_proved():
+    """Refuses to go on with a program that says that it is not proved."""
+    if os.path.exists(DESK) and not is_proved():
+        raise Broken(f"{DESK} is not proved: bin/build proves it")
 
 
 def desk(*words):
@@ -80,6 +109,11 @@ def new_book(book, keys, money, name="A Bank", *choice):
         desk("add", book, code, name.format(code.title()), key)
     desk("post", book, next(iter(keys)), "P-1", str(money))
     desk("open", book, DATE, *choice)
+
+
+def weekday(number):
+    """Returns the weekday of this number, from a Monday, which has the number 0, on."""
+    return str(datetime.date.fromisoformat(DATE) + datetime.timedelta(days=number // 5 * 7 + number % 5))
 
 
 def parts_of(book, ends=PARTS):
@@ -169,11 +203,12 @@ class Listening:
 
 class Server(Listening):
     """A desk that serves a book, as many connections as are said, at a port that is free or at this one. With a
-    library, that one is loaded first."""
+    library, that one is loaded first, with more in its environment."""
 
-    def __init__(self, book, connections, library=None, operator=OPERATOR, port=None):
+    def __init__(self, book, connections, library=None, operator=OPERATOR, port=None, more=None):
         words = ["--port", str(port or free_port()), "--count", str(connections), "--operator-key", operator]
-        super().__init__([DESK, "serve", book, *words], {**os.environ, "LD_PRELOAD": library} if library else None)
+        env = {**os.environ, "LD_PRELOAD": library, **(more or {})} if library else None
+        super().__init__([DESK, "serve", book, *words], env)
 
 
 def request(method, path, key, body=None):
@@ -189,19 +224,36 @@ def order(key, to, number, amount=1):
     return request("POST", "/orders", key, json.dumps({"amount": amount, "reference": f"A-{number}", "to": to}))
 
 
-def asked(port, sent):
-    """Returns the whole reply to one request on a connection of its own. It must be good."""
-    with socket.create_connection(("127.0.0.1", port), timeout=SECONDS) as link:
-        link.sendall(sent)
+def send(port, sent):
+    """Sends a request on a connection of its own, which is returned."""
+    link = socket.create_connection(("127.0.0.1", port), timeout=SECONDS)
+    link.sendall(sent)
+    return link
+
+
+def reply_on(link):
+    """Returns the whole reply on a connection, whatever it says."""
+    with link:
         reply = bytearray()
         while part := link.recv(65536):
             reply += part
-    if b" 200 OK\r\n" not in reply[:20]:
-        raise Broken(f"a server replied {bytes(reply[-400:])!r}")
     return bytes(reply)
 
 
+def asked(port, sent):
+    """Returns the whole reply to one request on a connection of its own. It must be good."""
+    reply = reply_on(send(port, sent))
+    if b" 200 OK\r\n" not in reply[:20]:
+        raise Broken(f"a server replied {reply[-400:]!r}")
+    return reply
+
+
 # Other tools
+
+
+def installed(tool):
+    """Returns where a tool is installed, or nothing. Some tools stand where only administrators have them."""
+    return shutil.which(tool, path=f"{os.environ.get('PATH', '')}:/usr/sbin:/usr/local/sbin")
 
 
 def stock(book, *commands, words=()):
@@ -234,6 +286,6 @@ def program(name, folder, *libraries):
 
 
 def told(measures, digits=1):
-    """Returns the median and the range of what was measured, in words, with so many digits behind the point."""
+    """Returns the median and the range of what was measured, in words, with this many digits behind the point."""
     middle, least, most = (f"{it:.{digits}f}" for it in (statistics.median(measures), min(measures), max(measures)))
     return f"{middle:>8} ({least} to {most})"

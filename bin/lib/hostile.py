@@ -25,7 +25,7 @@ def with_size(size, *after):
 
 
 def dumped(*before):
-    """The file as the dump of its tables makes it anew."""
+    """The file as the dump of its tables makes it again."""
     def dumped(book):
         dump = desks.stock(book, ".dump")
         desks.remove(book)
@@ -172,7 +172,7 @@ FILLED = ("CREATE TABLE more (id INTEGER PRIMARY KEY, filling BLOB)",
 
 
 def filled(most, length):
-    """Fills the file with so many bytes of rows of this length in a table more."""
+    """Fills the file with this many bytes of rows of this length in a table more."""
     return by_sql(FILLED[0], FILLED[1].format(most // (length + 8), length))
 
 

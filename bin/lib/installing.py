@@ -4,10 +4,10 @@ import os
 import tempfile
 
 import kit
-from lib import completions, desks, helps, manual, sources
+from lib import completions, desks, helps, manual, sources, unproved
 
 DEPLOY = f"{kit.TOP}/deploy"
-HANDBOOKS = ("OPERATORS.md", "BANKS.md", "AUDITORS.md", "SPECIFICATION.md", "openapi.yaml")
+HANDBOOKS = ("OPERATORS.md", "BANKS.md", "AUDITORS.md", "audit.sql", "SPECIFICATION.md", "openapi.yaml")
 CLIENTS = f"{kit.TOP}/bin/lib/clients"
 DOC, SHARED = "share/doc/desk", "share/desk"
 UNIT, PROGRAM, PAGE = "lib/systemd/system/desk.service", "bin/desk", "share/man/man1/desk.1"
@@ -46,9 +46,16 @@ def origin(version, program):
     return "".join(f"{name} {it}\n" for name, it in said.items())
 
 
+def refuse_one_not_proved(version):
+    """Refuses a program that says that it is not proved."""
+    if unproved.SAID in version:
+        raise desks.Broken(f"{version}: a program that is not proved is not installed")
+
+
 def files(prefix, run):
     """Returns what is installed: for each path below the prefix its bytes and its mode. The call runs the program."""
     program, built = helps.program(run), desks.content(desks.DESK)
+    refuse_one_not_proved(program.version)
     texts = {
         PAGE: manual.made(program, f"{prefix}/{DOC}"),
         ORIGIN: origin(program.version, built),

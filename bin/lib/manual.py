@@ -58,7 +58,7 @@ def option(it):
 
 
 def command(name, said):
-    """Returns the part of a subcommand: its usage, what it does, its arguments and its options, but for its help."""
+    """Returns the part of a subcommand: its usage, what it does, its arguments and its options, without its help."""
     parts = [f".SS {escaped(name)}", marked(said.usage), ".PP", escaped(f"{said.about}.")]
     parts += [tagged(f"\\fI{it.shown}\\fR", it.help) for it in said.arguments]
     parts += [option(it) for it in said.options if it.name != "--help"]

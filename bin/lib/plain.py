@@ -20,8 +20,13 @@ def compiled(folder):
     return Programs(desks.program("asking", folder), desks.program("plain_server", folder, "sqlite3"))
 
 
+def client(folder):
+    """Compiles the client alone."""
+    return Programs(desks.program("asking", folder), None)
+
+
 class Server(desks.Listening):
-    """A plain server of a book that the desk made, for so many connections."""
+    """A plain server of a book that the desk made, for a number of connections."""
 
     def __init__(self, programs, book, connections):
         super().__init__([programs.server, book, str(connections)])

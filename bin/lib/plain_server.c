@@ -5,7 +5,7 @@
 // they are in the desk. An order is kept as the desk keeps it: its reference is looked up, and then its row, its mark
 // and two balances are written in one transaction, which is synced. The statements are prepared once.
 //
-// plain_server BOOK COUNT: serves so many connections, and prints `listening` with its port first.
+// plain_server BOOK COUNT: serves COUNT connections, and prints `listening` with its port first.
 #define _GNU_SOURCE
 #include <arpa/inet.h>
 #include <sqlite3.h>

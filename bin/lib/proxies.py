@@ -10,8 +10,6 @@ import kit
 from lib import desks
 
 DEPLOYED = f"{kit.TOP}/deploy/nginx.conf"
-# where systems have it that is not on everybody's path
-PLACES = ":/usr/sbin:/usr/local/sbin"
 WHOLE = """\
 # nginx as a check runs it
 daemon off;
@@ -31,7 +29,7 @@ PASSWORD = "changeit"
 
 def installed():
     """Returns where nginx is installed, or nothing."""
-    return shutil.which("nginx", path=os.environ.get("PATH", "") + PLACES)
+    return desks.installed("nginx")
 
 
 def version():
@@ -56,8 +54,8 @@ def run(*words):
 
 
 class Nginx:
-    """nginx, which listens once its `with` has begun and ends with it, over a desk's port. It waits so many seconds for
-    a reply of the desk."""
+    """nginx, which listens once its `with` has begun and ends with it, over a desk's port. It waits this many seconds
+    for a reply of the desk."""
 
     def __init__(self, folder, to, seconds=desks.SECONDS):
         self.folder, self.port, self.process = f"{folder}/nginx", desks.free_port(), None

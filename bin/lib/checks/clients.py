@@ -6,6 +6,9 @@ a proxy's 502, 503 and 504 follow: the client sends the same order again until i
 curl and wget do by themselves where a reply is lost. Where nginx is installed the banks' requests go through it too,
 with the configuration of deploy/, and a reply that is lost is a 502 of nginx itself. Needs the five clients;
 `--only NAME` tries one alone.
+
+Shows: that five stock clients get the same replies, also through nginx and where a reply is lost.
+Cannot show: other clients, and other versions of these.
 """
 import contextlib
 import json
@@ -18,6 +21,8 @@ import sys
 import kit
 from lib import desks, proxies, relays
 
+NEEDS = ("curl", "wget", "node", "java")
+PARTS = {"through nginx": "nginx"}
 FOLDER = f"{kit.TOP}/bin/lib/clients"
 CLIENTS = {
     "curl": ["bash", f"{FOLDER}/curl.sh"],
@@ -169,3 +174,4 @@ def run(given, report):
     if not given.only:
         with desks.room() as folder:
             follow(Alone(folder, report), report)
+    report.finds(f"all clients: {report.right} things as they must be, {report.wrong} not")

@@ -4,6 +4,9 @@
 the bytes of the write are written. A report on what is left must be refused with 93, or answered, where the book is
 whole. Then `init` is given again: it makes the book where the file is missing or empty, and else says that there is a
 file. A library of a few lines of C, which stands before the C library's, ends the program. Needs a C compiler, `cc`.
+
+Shows: that `init`, wherever it ends among its calls to a file, leaves no book or the whole one.
+Cannot show: what a power cut leaves: what a killed process has written stays in the memory of the system.
 """
 import os
 import signal
@@ -11,6 +14,7 @@ import subprocess
 
 from lib import desks
 
+NEEDS = ("cc",)
 MADE = (0, "initialised\n")
 EXISTS = (3, "refused 96 FileExists\n")
 NO_BOOK = (3, "refused 93 NotADeskFile\n")

@@ -4,9 +4,15 @@ README.md has at most 900 words, docs/GUARANTEES.md at most 6,000, and docs/DECI
 form. Each file that a document names must be there, and each heading to which it links. GUARANTEES.md must have each
 promise of the crate `rtgs_promises` with its first sentences, and no other; the functions, clauses and types that it
 names must stand in docs/CONTRACTS.md, or else in the code. SPECIFICATION.md must have the refusals as the code has
-them, and OPERATORS.md what the program explains of each. Each number must be one of a constant, of a refusal, or of
-another script or test (bin/lib/stated.py); measures stand in COSTS.md alone, in sections that name what measured them.
-Builds and runs nothing.
+them; what bin/tables writes into other documents must be there; and the day in OPERATORS.md has commands and refusals
+as SPECIFICATION.md lists them. Each number must be one of a constant, of a refusal, or of another script or test
+(bin/lib/stated.py); measures stand in COSTS.md alone, in sections that name what measured them. No text has the words
+that CONTRIBUTING.md lists as not to be used, except for those that bin/lib/words_to_do.txt counts.
+
+Of each file of evidence it says whether it is of the tree that is checked out. README.md and GUARANTEES.md may name a
+file of evidence only if it is, or its lines are what its script makes of the tests of this tree; beside that they name
+evidence/README.md, the table of all, which must be what the files make it. Evidence that is older fails nothing else.
+Builds and runs nothing, and writes no evidence, since each gate runs it again.
 """
 import functools
 import glob
@@ -14,12 +20,14 @@ import os
 import re
 
 import kit
-from lib import stated
+from lib import evidence, findings, stated, tables, words
+from lib.checks import asserted
 
 NEEDS_THE_PROGRAM = False
-WORDS = {"README.md": 900, "docs/GUARANTEES.md": 6000}
+WORDS = {"README.md": 900, "docs/GUARANTEES.md": 6000, "docs/OPERATORS.md": 5500, "docs/AUDITORS.md": 4000}
 ENTRIES = 60
 DECISIONS, GUARANTEES, COSTS = "docs/DECISIONS.md", "docs/GUARANTEES.md", "docs/COSTS.md"
+AUDIT = "docs/audit.sql"
 SPECIFICATION, CONTRACTS, OPERATORS = "docs/SPECIFICATION.md", "docs/CONTRACTS.md", "docs/OPERATORS.md"
 FORM = ["Chosen", "Because", "Instead of", "Price"]
 PROMISE = re.compile(r"((?:^///[^\n]*\n)+)// To judge it, read (?:[^\n]*\n)(?:// [^\n]*\n)*^pub fn (\w+)", re.M)
@@ -265,6 +273,13 @@ def is_known(found, refusals):
     return not behind and (number in refusals or number in replies or number in ends)
 
 
+def queries(text, sees):
+    """The auditors' queries have the limits and the numbers of the code."""
+    text = folded(re.sub(r"^-- ", "", text, flags=re.M))
+    for it in map(stated.told, stated.QUERIES):
+        sees(f"{AUDIT} says: {it}", it in text, True)
+
+
 def numbers(name, text, sees):
     """Each number of a document is stated by the code, or is that of a refusal or a status."""
     text, refusals = without_stated(name, text, sees), stated.refusals()
@@ -293,15 +308,47 @@ def refusals_as_specified(text, sees):
     sees("statuses of replies", {it: replies.get(it, int(told[2])) for it in wanted}, wanted)
 
 
-def refusals_as_explained(text, sees):
-    """The handbook has what `desk explain` says of each refusal, in the same order."""
-    rows = re.findall(r"^\| (\d\d \w+) \| (.*) \| (.*) \| (.*) \|$", section(text, "Refusals"), re.M)
-    wanted = stated.explanations()
+def made_tables(sees):
+    """The program explains each refusal, in the order of their numbers; and the tables of documents are those made."""
     heads = [f"{number:02} {of[0]}" for number, of in sorted(stated.refusals().items())]
-    sees("refusals that the program explains", [it[0] for it in wanted], heads)
-    sees(f"refusals of {OPERATORS}", [it[0] for it in rows], [it[0] for it in wanted])
-    for row, it in zip(rows, wanted):
-        sees(f"{OPERATORS}, {it[0]}", row, it)
+    sees("refusals that the program explains", [it[0] for it in stated.explanations()], heads)
+    sees("documents with other tables than bin/tables writes", sorted(tables.differing()), [])
+
+
+# a step of the day in OPERATORS.md: its number, its cell with a command, and the one with what else may come
+STEP = re.compile(r"^\| (\d+) \| (.*) \| .* \| (.*) \|$", re.M)
+# the row of a command's tests in SPECIFICATION.md
+TESTS = re.compile(r"^\| (?:`(\w+)`|an order) \| ((?:repeated|\d+)(?:, (?:repeated|\d+))*) \|$", re.M)
+# what each run may meet; what an order file may bring; and what a reading of one participant may
+OF_EACH_RUN, OF_FILES, OF_READINGS = {*range(30, 36), *range(90, 99)}, {40, 41, 42, 63}, {1}
+
+
+def numbers_in(cell):
+    return {int(it) for it in re.findall(r"\d+", cell)}
+
+
+def day_of_commands(text, specified, sees):
+    """Each step of the day has a command as the specification lists it, and refusals that this command may meet."""
+    forms = {re.sub(r" \[.*", "", it) for it in re.findall(r"^    (desk \w+ .*)$", specified, re.M)}
+    tests = {name or "import": numbers_in(cell) for name, cell in TESTS.findall(specified)}
+    tests["import"] |= OF_FILES
+    steps = STEP.findall(section(text, "A day on one page"))
+    sees(f"steps of the day in {OPERATORS}", [int(it[0]) for it in steps], list(range(1, len(steps) + 1)))
+    sees("commands of the day and of the specification", (len(steps) > 9, len(tests) > 8), (True, True))
+    for number, command, refused in steps:
+        given = re.findall(r"`(desk [^`]*)`", command)
+        sees(f"{OPERATORS}, commands of step {number}", [it for it in given if it not in forms], [])
+        named = numbers_in(" ".join(re.findall(r"(?:^|\. )((?:\d+, )*\d+): ", refused)))
+        may = set().union(OF_EACH_RUN, *(tests.get(it.split()[1], OF_READINGS) for it in given))
+        sees(f"{OPERATORS}, refusals of step {number}", sorted(named - may), [])
+
+
+def plain_words(sees):
+    """No file has more of the words that are not used than the list of files says, and none fewer (bin/tables)."""
+    counts, allowed = words.found(), words.to_do()
+    sees("words that are not used", len(words.avoided(read(words.LIST))[0]) > 8, True)
+    for name in sorted({*counts, *allowed}):
+        sees(f"words in {name} that are not used", counts.get(name, 0), allowed.get(name, 0))
 
 
 def measures(text, sees):
@@ -310,6 +357,41 @@ def measures(text, sees):
         head, _, body = part.partition("\n")
         if re.search(r"\d", body):
             sees(f"{COSTS}, what measured {head}", bool(re.search(r"`(?:bin/\w|\w+_bench )|tests in `", body)), True)
+
+
+# Evidence
+
+
+def states(report):
+    """Tells whether each file of evidence is of this tree, and returns the names of those that are, or that say
+    what the tests of this tree assert."""
+    tree, own = evidence.tree(), set()
+    for name, finding in findings.all_files().items():
+        state = findings.state(finding, tree)
+        if name == asserted.NAME:
+            wanted = asserted.lines()
+            report.sees(f"evidence/{name}.txt: its lines", len(finding.lines), len(wanted))
+            for line, it in zip(finding.lines, wanted):
+                report.sees(f"evidence/{name}.txt: what the tests assert", line, it)
+            state = f"{state}, and says what the tests of this tree assert"
+        own |= {name} if state == findings.THIS or name == asserted.NAME else set()
+        report.tells(f"evidence/{name}.txt: {state}")
+    return own
+
+
+def called_on(name, text, own, sees):
+    """A document calls on no evidence of another tree."""
+    found = set(re.findall(r"\bevidence/([\w-]+)\.(?:txt|md)\b", text)) - {"README"}
+    for it in sorted(found):
+        sees(f"{name} calls on evidence/{it}.txt, which is of this tree", it in own, True)
+
+
+def evidence_is_told(report):
+    """The table of evidence is what its files make it, and no document calls on evidence of another tree."""
+    own = states(report)
+    report.sees("evidence/README.md, which bin/checks --table writes", read("evidence/README.md"), findings.table())
+    for name in ("README.md", GUARANTEES):
+        called_on(name, read(name), own, report.sees)
 
 
 def run(_given, report):
@@ -325,6 +407,10 @@ def run(_given, report):
     for name in ("README.md", GUARANTEES):
         names(name, read(name), report.sees)
     refusals_as_specified(read(SPECIFICATION), report.sees)
-    refusals_as_explained(read(OPERATORS), report.sees)
+    made_tables(report.sees)
+    day_of_commands(read(OPERATORS), read(SPECIFICATION), report.sees)
+    queries(read(AUDIT), report.sees)
     measures(read(COSTS), report.sees)
+    plain_words(report.sees)
+    evidence_is_told(report)
     report.finds(f"{report.right} things as they must be, {report.wrong} not")

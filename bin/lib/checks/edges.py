@@ -2,20 +2,27 @@
 
 An answer and help must stand on standard output alone, and end with 0. A refusal must stand on standard error alone, in
 one line, and end with the status that SPECIFICATION.md lists. The bytes of the book's file must change where a command
-acted, and in no other run. A server must not wait for a peer to close that has its whole reply. Needs the stock
-`sqlite3` and a C compiler, `cc`.
+acted, and in no other run. A server must not wait for a peer to close that has its whole reply. Without a C compiler,
+`cc`, lack of memory is left out.
+
+Shows: that the program tells each answer and each refusal on the one stream where it belongs, with its exit status.
+Cannot show: runs with other words than these, and refusals of a book that is full.
 """
+import contextlib
 import fcntl
 import os
 import re
 import shlex
 import shutil
 import socket
+import sqlite3
 import time
 
 from lib import desks, runs, stated
 from lib.checks import migrations
 
+MEMORY = "lack of memory"
+PARTS = {MEMORY: "cc"}
 BOOK = "bank.desk"
 HEADER = "reference,to,amount\n"
 RESULTS = "reference,result,number,detail"
@@ -172,7 +179,8 @@ def other_files(edges):
     edges.is_refused("report @ 2024-03-04", "linked.desk", 91)
     os.remove(f"{edges.folder}/linked.desk")
     unsound = shutil.copy(f"{edges.folder}/{BOOK}", f"{edges.folder}/unsound.desk")
-    desks.stock(unsound, "UPDATE participant SET balance = balance + 1")
+    with contextlib.closing(sqlite3.connect(unsound)) as book, book:
+        book.execute("UPDATE participant SET balance = balance + 1")
     edges.is_refused("report @ 2024-03-04", "unsound.desk", 94, "14")
     with socket.create_server(("127.0.0.1", 0)) as taken:
         edges.follows(f"{SERVE.format(taken.getsockname()[1])} => !97")
@@ -253,8 +261,10 @@ def run(_given, report):
         explanations(edges)
         full_streams(edges)
         open_peer(edges)
-        lack_of_memory(edges)
-    must = set(runs.refusals()) - OF_ROWS - AT_THE_LAST_NUMBER - NEVER
+        is_whole = bool(desks.installed(PARTS[MEMORY]))
+        if is_whole:
+            lack_of_memory(edges)
+    must = set(runs.refusals()) - OF_ROWS - AT_THE_LAST_NUMBER - NEVER - (set() if is_whole else {90})
     report.sees("refusals that were met", sorted(edges.met), sorted(must))
-    report.finds(f"{len(edges.met)} refusals of runs, help, full streams, and lack of memory: {report.right} things as "
-                 f"they must be, {report.wrong} not")
+    report.finds(f"{len(edges.met)} refusals of runs, help, full streams, {MEMORY if is_whole else 'ample memory'}: "
+                 f"{report.right} things as they must be, {report.wrong} not")

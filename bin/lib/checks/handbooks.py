@@ -1,12 +1,18 @@
-"""Runs each command that the handbooks show, and compares what it prints with what they say.
+"""Runs each command that the documents for users show, and compares what it prints with what they say.
 
 Standard output and standard error are kept apart: a refusal and a stock tool's error must stand on standard error, all
 else on standard output, and the exit status must be the one that goes with that.
 
-OPERATORS.md is one session in a folder that has a book of an earlier version of the program. AUDITORS.md goes on with
-the book that this makes before its section on HTTP: each query over a copy, and each fault of the last table in a copy
-of its own. BANKS.md has a book and a server made for it. The examples of the man page are a session too. Needs the
-stock `sqlite3` and `curl`.
+OPERATORS.md is one session in a folder that has a book of an earlier version, and so is CHANGELOG.md. AUDITORS.md goes
+on with the book that OPERATORS.md makes before its section on HTTP: each query of audit.sql over a copy, and each fault
+in a copy of its own. BANKS.md has a book and a server made for it. The examples of the man page are a session too, and
+so are those of README.md over the book that it makes, and those of SPECIFICATION.md over one that is made for it; the
+order files shown there are read, and the words of each command are those of the program's help. Needs the stock
+`sqlite3` and `curl`.
+
+Shows: that each command and query of the handbooks and of the man page prints what they show, on its stream, and ends
+with its status.
+Cannot show: that what they say in words is true.
 """
 import contextlib
 import os
@@ -19,10 +25,27 @@ import typing
 import kit
 from lib import desks, manual, runs
 
-OLD = f"{kit.TOP}/kept_books/closed.desk"
+NEEDS = ("sqlite3", "curl")
+OLD, QUERIES = f"{kit.TOP}/kept_books/closed.desk", "docs/audit.sql"
 END = "-- end of a command --"
 SHOWN = re.compile(r"    \$ ")
 SHOWN_TO_BANKS = re.compile(r"    (curl|printf|KEY=|DESK=)")
+# what README.md gives without its answer, to make the book of its session; and the server that it starts in the end
+MADE = re.compile(r"^    (?:bin/(desk (?!serve).*)|(printf .*))$", re.M)
+STARTED = re.compile(r"^    bin/(desk serve .*)$", re.M)
+GIVEN_ALONE = re.compile(r"^    (?:bin/|printf ).*\n", re.M)
+# what makes the book of the texts in SPECIFICATION.md: a posting, and a ring of orders
+BOOK_OF_TEXTS = [
+    "desk init bank.desk",
+    *[f"desk add bank.desk {code} '{code} Bank' {key}" for code, key in desks.KEYS.items()],
+    "desk open bank.desk 2024-03-04",
+    "desk post bank.desk ALFA P-1 100000",
+    *[f"printf 'reference,to,amount\\n{row},150000\\n' > {code}.csv; desk import bank.desk {code} {code}.csv"
+      for code, row in {"ALFA": "A-1,BETA", "BETA": "B-1,GAMA", "GAMA": "G-1,ALFA"}.items()],
+    "desk resolve bank.desk",
+]
+ORDER_FILE = re.compile(r"^    reference,to,amount(?:,due)?\n(?:    [^ ].*\n)+", re.M)
+FORM = re.compile(r"^    desk (\w+ .*)$", re.M)
 REPORT, REPORTED = "desk report {0} 2024-03-05", "report 2024-03-05"
 # what stands on standard error: a refusal, or what the stock sqlite3 says of an error or of a command's status
 ON_ERROR = re.compile(r"refused (?P<refusal>\d\d) |Error: .*\((?P<error>\d+)\)$|System command returns ")
@@ -88,9 +111,13 @@ def ended(shown):
     return Ended(status, out, err)
 
 
-def handbook(name):
-    with open(f"{kit.TOP}/docs/{name}.md", encoding="utf-8") as text:
+def document(name):
+    with open(f"{kit.TOP}/{name}", encoding="utf-8") as text:
         return text.read()
+
+
+def handbook(name):
+    return document(f"docs/{name}.md")
 
 
 def commands(text, is_command):
@@ -106,12 +133,43 @@ def commands(text, is_command):
     return found
 
 
+class Fault(typing.NamedTuple):
+    """A fault of a book: the query under which it stands, if one finds it, the fault itself, the rows that the query
+    then gives, the other queries that find it, and what the desk does."""
+
+    query: str
+    fault: str
+    gives: list
+    others: list
+    desk: str
+
+
+# a query with all that stands under it, or the faults that no query finds
+PART = re.compile(r"^-- (Q\d+|What no query finds)(.*?)(?=^-- Q\d+|^-- What no query finds|\Z)", re.M | re.S)
+# the lines of comments that name a fault, and those that say what is found of it
+FAULT = re.compile(r"^-- fault: (.*\n(?:--        .*\n)*)(?:-- gives: (.*)\n)?(?:-- others: (.*)\n)?-- desk: (.*)$",
+                   re.M)
+
+
+def audit_of(text):
+    """Returns the queries of the auditors' file, by their names, and its faults. Each query begins with its name."""
+    queries, faults = {}, []
+    for name, part in PART.findall(text):
+        for fault, gives, others, desk in FAULT.findall(part):
+            whole = " ".join(fault.replace("\n--", "\n").split())
+            faults.append(Fault(name, whole, rows_of(gives), others.split(), desk))
+        if name.startswith("Q"):
+            bare = re.sub(r"^--.*\n", "", f"--{part}", flags=re.M).strip()
+            queries[name] = bare.removeprefix(f"SELECT '{name}';").strip()
+    return queries, faults
+
+
 class Audit:
-    """The queries of the auditors' handbook, over a session's copy of the book."""
+    """The queries of the auditors, over a session's copy of the book."""
 
     def __init__(self, session, text, report):
         self.session, self.report = session, report
-        self.queries = dict(re.findall(r"\*\*(Q\d+),.*?```sql\n(.*?)```", text, re.S))
+        self.queries, self.faults = audit_of(text)
 
     def answers(self, book):
         """Returns the lines that each query prints over a book, on standard output and on standard error."""
@@ -129,38 +187,29 @@ class Audit:
             self.report.sees(name, found, (wanted[name], []))
         return good
 
-    def of_a_fault(self, good, row):
-        """Puts a fault into a copy of the book, and compares what the queries and the desk say with the table's row."""
-        name, fault, rows, others, desk = row
+    def of_a_fault(self, good, it):
+        """Puts a fault into a copy of the book, and compares what the queries and the desk say with what is said."""
         book = f"{self.session.folder}/fault.desk"
         shutil.copy(f"{self.session.folder}/audit.desk", book)
-        subprocess.run(["sqlite3", book, fault], check=True)
+        subprocess.run(["sqlite3", book, it.fault], check=True)
         said = self.answers(book)
-        changed = {it for it in said if said[it] != good[it]}
-        found, error = said.get(name, ([], []))
-        found = [it.split(",")[0] for it in found] if name == "Q1" else found
+        changed = {name for name in said if said[name] != good[name]}
+        found, error = said.get(it.query, ([], []))
+        found = [row.split(",")[0] for row in found] if it.query == "Q1" else found
         sees = self.report.sees
-        sees(f"{name} of {fault}", (found, error), (rows_of(rows), []))
-        named = set(re.findall(r"Q\d+", others)) | ({name} & set(said))
-        sees(f"queries of {fault}", sorted(changed), sorted(named))
-        told = self.session.run(REPORT.format("fault.desk"))
-        if desk == "opens it":
-            sees(f"the desk of {fault}", (told.status, told.out[:1], told.err), (0, [REPORTED], []))
+        sees(f"{it.query} of {it.fault}", (found, error), (it.gives, []))
+        sees(f"queries of {it.fault}", sorted(changed), sorted({*it.others} | ({it.query} & set(said))))
+        shown = self.session.run(REPORT.format("fault.desk"))
+        if it.desk == "opens it":
+            sees(f"the desk of {it.fault}", (shown.status, shown.out[:1], shown.err), (0, [REPORTED], []))
         else:
-            sees(f"the desk of {fault}", told, ended([f"refused {desk}"]))
+            sees(f"the desk of {it.fault}", shown, ended([f"refused {it.desk}"]))
         desks.remove(book)
 
 
 def rows_of(cell):
-    """Returns the rows that a cell of the table names, where they are spelt out."""
+    """Returns the rows that a line names, where they are spelt out."""
     return re.findall(r"`([^`]*)`", cell)
-
-
-def table_of_faults(text):
-    """Returns the rows of the table of faults, as lists of their cells."""
-    rows = [line.split(" | ") for line in text.splitlines() if re.match(r"\| (Q\d+|none) \| `", line)]
-    return [[it.strip("| ").removeprefix("`").removesuffix("`") if at == 1 else it.strip("| ")
-             for at, it in enumerate(row)] for row in rows]
 
 
 def operators(session, report):
@@ -173,11 +222,18 @@ def auditors(session, report):
     shutil.copy(OLD, f"{session.folder}/old.desk")
     for command, _ in commands(handbook("OPERATORS").split("## By HTTP")[0], SHOWN):
         session.run(command)
+    shutil.copy(f"{kit.TOP}/{QUERIES}", session.folder)
     session.follow(text, SHOWN, report)
-    audit = Audit(session, text, report)
+    audit = Audit(session, document(QUERIES), report)
+    report.sees("queries and faults", (len(audit.queries), len(audit.faults) > 30), (16, True))
     good = audit.of_a_good_book()
-    for row in table_of_faults(text):
-        audit.of_a_fault(good, row)
+    for it in audit.faults:
+        audit.of_a_fault(good, it)
+
+
+def changelog(session, report):
+    shutil.copy(OLD, f"{session.folder}/old.desk")
+    session.follow(document("CHANGELOG.md"), SHOWN, report)
 
 
 def requests_of_banks():
@@ -205,10 +261,52 @@ def man_page(session, report):
     session.follow(manual.examples(manual.page()), SHOWN, report)
 
 
+def readme(session, report):
+    text = document("README.md")
+    made = ["".join(it) for it in MADE.findall(text)]
+    report.sees("commands that make the book of README.md", len(made) > 3, True)
+    for command in made:
+        report.sees(command, session.run(command).status, 0)
+    session.follow(GIVEN_ALONE.sub("", text), SHOWN, report)
+    for command in STARTED.findall(text):
+        session.run(f"{command} > server.txt &")
+        report.sees(command, session.run("cat server.txt"), ended(["listening 8080"]))
+
+
+def words_of(form):
+    """Returns the words of a command that must be given, in one order, without the marks of their kinds."""
+    return sorted(re.sub(r"[<>]", "", re.sub(r"\[[^]]*\]", "", form)).split())
+
+
+def order_files(session, files, report):
+    """Each order file that is shown is taken, and has an answer for each row."""
+    report.sees("order files that are shown", len(files), 2)
+    for it in files:
+        with open(f"{session.folder}/shown.csv", "w", encoding="utf-8") as file:
+            file.write(re.sub(r"^    ", "", it, flags=re.M))
+        taken = session.run("desk import bank.desk ALFA shown.csv")
+        report.sees(f"rows of {it}", (taken.status, len(taken.out)), (0, it.count("\n")))
+
+
+def specification(session, report):
+    text = handbook("SPECIFICATION")
+    for command in BOOK_OF_TEXTS:
+        session.run(command)
+    session.follow(text, SHOWN, report)
+    order_files(session, ORDER_FILE.findall(text), report)
+    forms = FORM.findall(text)
+    report.sees("commands that are listed", len(forms) > 15, True)
+    for form in forms:
+        usage = session.run(f"desk {form.split()[0]} --help | sed -n 's/Usage: desk //p'").out
+        report.sees(f"the words of {form}", words_of(" ".join(usage)), words_of(form))
+
+
 def run(_given, report):
-    shown = {"OPERATORS.md": operators, "AUDITORS.md": auditors, "BANKS.md": banks, "desk(1)": man_page}
+    shown = {"README.md": readme, "OPERATORS.md": operators, "AUDITORS.md": auditors, "BANKS.md": banks,
+             "SPECIFICATION.md": specification, "CHANGELOG.md": changelog, "desk(1)": man_page}
     for name, follow in shown.items():
         right, wrong = report.right, report.wrong
         with desks.room() as folder, Session(folder) as session:
             follow(session, report)
         report.finds(f"{name}: {report.right - right} as they say, {report.wrong - wrong} not")
+    report.finds(f"{len(shown)} texts: {report.right} things as they say, {report.wrong} not")

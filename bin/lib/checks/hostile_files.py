@@ -7,6 +7,9 @@ for each file its length, what the desk answers, how long that took, and what be
 Something is otherwise where a file was changed by a byte (but by its own log, or since it was migrated), no report can
 be made of one that was migrated, an answer is none of a report, `migrated`, 91, 93 and 94, or a run did not end within
 a minute. Needs the stock `sqlite3`.
+
+Shows: that each of these files is reported on, migrated or refused, soon, and that a refused one keeps each byte.
+Cannot show: files of other kinds.
 """
 import random
 import re
@@ -16,6 +19,7 @@ import time
 
 from lib import desks, hostile
 
+NEEDS = ("sqlite3",)
 REPORT, MIGRATE = ("report", desks.DATE), ("migrate",)
 ANSWER = re.compile(r"refused 91 StoreFault\n|refused 93 NotADeskFile\n|refused 94 Inconsistent ([1-9]|1[0-6])\n")
 SECONDS = 60
@@ -94,7 +98,7 @@ class Trial:
         return said, took
 
     def told(self, wrong):
-        """Returns what all files came to, and begins anew."""
+        """Returns what all files came to, and begins again."""
         met = ", ".join(f"{count} {said}" for said, count in sorted(self.met.items()))
         told = f"{met}; {wrong} changed or answered otherwise; at most {self.most:.2f} s"
         self.met, self.most = {}, 0
@@ -126,7 +130,7 @@ class Trial:
             raise desks.Broken(f"no file has one of these in its name: {', '.join(only)}")
 
     def try_by_chance(self, count):
-        """Tries so many files that chance has changed."""
+        """Tries this many files that chance has changed."""
         chance, wrong = random.Random(1), self.report.wrong
         desks.stock(self.good, *hostile.FREED)
         data = desks.content(self.good)

@@ -4,6 +4,10 @@ The installed program must run. groff must read the man page without a warning, 
 option. The completion of bash must complete commands, options and files; those of zsh and fish are read by their shells
 where these are installed. systemd must find no fault with the unit, where it stands. Needs `groff`, `bash` and
 `systemd-analyze`.
+
+Shows: that all that belongs to the program is installed, and that groff, the shells and systemd read it without
+complaint.
+Cannot show: that the unit starts on a machine of its own.
 """
 import os
 import shutil
@@ -11,6 +15,7 @@ import subprocess
 
 from lib import desks, helps, installing
 
+NEEDS = ("groff", "bash", "systemd-analyze")
 COMPLETED = 'source "$1"; COMP_WORDS=("${@:2}"); COMP_CWORD=$(($# - 2)); _desk; printf "%s\\n" "${COMPREPLY[@]}"'
 # words before the place where something is to be completed, which is the last, and what that is completed to
 WORDS = {
@@ -70,9 +75,6 @@ def unit(prefix, sees):
 
 
 def run(_given, report):
-    missing = [it for it in ("groff", "bash", "systemd-analyze") if not shutil.which(it)]
-    if missing:
-        raise desks.Broken(f"not installed: {', '.join(missing)}")
     with desks.room() as folder:
         prefix, paths = f"{folder}/usr", []
         installing.install(prefix, paths.append)

@@ -2,6 +2,9 @@
 
 The books stand in kept_books, with the words of each run and what the program of their time printed: the
 program must print the same, to the byte.
+
+Shows: that the books of earlier versions are migrated, and read as the program of their time read them.
+Cannot show: anything of books that are not kept.
 """
 import os
 import shutil

@@ -1,14 +1,18 @@
 """Migrates books with tables of each earlier version, and looks at them with the stock sqlite3.
 
 Makes books by commands, and of each a copy with tables of each earlier version that can hold it. Every command but
-`init` and `migrate` refuses the copy with 93. Once it is migrated, its dump and all that the desk tells of it are those
+`init` and `migrate` refuses the copy with 93. Once it is migrated, its dump and all that the desk shows of it are those
 of the book. Then it migrates books of these versions that are broken, each by one rule or form: they must be refused
 with that rule or with 93, and no byte of their files may change.
+
+Shows: that a migrated book has the tables and the readings of a new one, and that a broken book stays as it is.
+Cannot show: what a crash within a migration leaves.
 """
 import shutil
 
 from lib import desks, runs
 
+NEEDS = ("sqlite3",)
 KEYS, DAYS = desks.KEYS, ["2024-03-04", "2024-03-05", "2024-03-06", "2024-03-07"]
 
 NEW = ["init @", *[f"add @ {code} {code} {key}" for code, key in KEYS.items()], "post @ BETA P-0 20"]
@@ -38,7 +42,7 @@ TOLD = [*[f"report @ {day}" for day in DAYS], *[f"statement @ {code} {day}" for 
 
 
 def anew(table, columns, rows):
-    """Makes a table of the book anew, without what is unique in it."""
+    """Makes a table of the book again, without what is unique in it."""
     return f"CREATE TABLE x ({columns}) STRICT; INSERT INTO x SELECT {rows} FROM {table}; DROP TABLE {table}; " \
         f"ALTER TABLE x RENAME TO {table}"
 

@@ -3,6 +3,9 @@
 Status, type and body of each reply must be those of its example. Each example must be sent, and fit the schema beside
 it. The routes must be those of SPECIFICATION.md, and the refusals those of the code that a request may meet, each under
 its status.
+
+Shows: that a running desk gives the replies of the description, and has its routes and refusals.
+Cannot show: requests that are no example there.
 """
 import json
 import re

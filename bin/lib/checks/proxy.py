@@ -5,6 +5,9 @@ also to the operator's key. Heads of HTTP/1.0, bodies in chunks, and bodies of t
 sent. A bank that sends slowly must hold up no other. The desk is ended, killed in the middle of a request, and held
 still: the bank must get 502 and 504, and the same order again must be answered and act once. Ends with 1 where nginx is
 not installed. Needs `curl` and `openssl` too.
+
+Shows: that the desk works behind nginx as the handbook says, also where the desk is ended, killed or held still.
+Cannot show: other proxies, and a load of many banks.
 """
 import os
 import signal
@@ -17,6 +20,7 @@ import time
 from lib import desks, proxies, stated
 from lib.checks import copies, handbooks
 
+NEEDS = ("nginx", "curl", "openssl")
 MANY = 1000
 # how long nginx waits for a desk that is held still
 SECONDS = 2

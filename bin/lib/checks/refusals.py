@@ -7,6 +7,9 @@ each; N counts from the start of each test.
 
 Tells for each call how many requests it makes, and what it came to at which of them. Something is otherwise where a
 call came to what no test allows. Needs a C compiler, `cc`.
+
+Shows: how each call of these tests ends where one request for memory is refused, and no other one.
+Cannot show: calls that no test makes, and a process that the system ends since memory ran out.
 """
 import concurrent.futures
 import itertools
@@ -19,7 +22,7 @@ import tempfile
 import kit
 from lib import desks
 
-EVIDENCE = "refused-memory"
+NEEDS = ("cc",)
 NEEDS_THE_PROGRAM = False
 CRATES = ("rtgs_memory_trials",)
 BEGINS, CALLED, ANSWERED = "begins", "called", "answered"
@@ -74,7 +77,7 @@ class Program:
         return last_word(ran.stdout, test), [int(before.get(it, 0)) for it in (BEGINS, CALLED)]
 
     def until(self, end, test, numbers):
-        """Returns how far the call comes at each of these numbers, up to one where it comes to this end."""
+        """Returns how far the call comes at each of these numbers, up to one where it has this end."""
         found = (self.run(test, number)[0] for number in numbers)
         return list(itertools.takewhile(lambda word: word != end, found))
 

@@ -10,13 +10,17 @@ SETTLED = (REFUSED, AT_LIMIT, BAD)
 
 
 class Crate:
-    """A crate of a tree that has two, of which desk stands on low."""
+    """A crate of a tree that has three, of which desk stands on the others."""
 
     def __init__(self, top, name, lower):
         self.folder, self.name, self.lower, self.out = f"{top}/crates/{name}", name, lower, None
+        self.is_program, self.of_kit = name == "desk", ["std"]
 
     def below(self):
         return self.lower
+
+    def sources_below(self):
+        return [word for it in self.lower for word in ("--lib", f"{it.name}:std={it.folder}/src/lib.rt")]
 
     def build_rlib(self, _flags, anew):
         self.out.write(f"{self.name} is proved{' anew' if anew else ''}\n")
@@ -25,11 +29,16 @@ class Crate:
 
 def crates_below(folder):
     top = folder.split("/crates")[0]
-    low = Crate(top, "low", [])
-    return [low, Crate(top, "desk", [low])]
+    lower = [Crate(top, "low", []), Crate(top, "rtgs_cli_arguments", [])]
+    return [*lower, Crate(top, "desk", lower)]
 
 
-rtlib = types.SimpleNamespace(crates_below=crates_below, guarded=lambda: [], lock=lambda crates: [])
+def kit_sources(names):
+    return [word for it in dict.fromkeys(names) for word in ("--lib", f"{it}:=lib.rt")]
+
+
+rtlib = types.SimpleNamespace(crates_below=crates_below, guarded=lambda: [], lock=lambda crates: [],
+                              kit_sources=kit_sources, KIT=os.path.dirname(os.path.dirname(os.path.realpath(__file__))))
 
 
 def processors():

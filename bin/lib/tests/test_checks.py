@@ -1,10 +1,12 @@
 """The parts of each check that need no program."""
 import random
 import re
+import socket
+import threading
 import unittest
 from unittest import mock
 
-from lib import desks, hostile, runs, stated
+from lib import desks, findings, hostile, runs, stated
 from lib.checks import copies, documents, edges, handbooks, hostile_files, kills, migrations, plants, refusals
 from lib.report import Report
 
@@ -14,42 +16,95 @@ def quiet():
 
 
 class Kills(unittest.TestCase):
-    """The server is stood in for by numbers: of the last order that was replied to, and of orders in the book."""
+    """The server is stood in for by numbers: of the orders that were answered, and of those in the book."""
 
-    def found(self, last, in_the_book):
-        report = quiet()
-        with mock.patch.object(desks, "new_book"), mock.patch.object(kills, "last_replied", side_effect=last), \
-                mock.patch.object(kills, "freed", side_effect=in_the_book):
-            kills.kill_again_and_again(len(last), report, "kills", None, "")
-        return report
+    def found(self, answered, in_the_book, is_in_flight=True):
+        """Returns the report and the counts of rounds that came to this, with four clients that are alike."""
+        report, rounds = quiet(), iter(answered)
 
-    def test_all_that_was_replied_to_and_one_more_is_well(self):
-        report = self.found([3, 9], [3, 3, 10, 10])
-        self.assertEqual(report.wrong, 0)
-        told = "2 kills: 9 orders were replied to, and all are in the book with what followed them"
-        self.assertEqual(report.found, [f"{told}; 1 more without a reply"])
+        def send(_book, clients, _before):
+            number = next(rounds)
+            for it in clients:
+                it.next, it.is_in_flight = it.first + number, is_in_flight
 
-    def test_an_order_that_is_lost_ends_the_check(self):
-        report = self.found([3, 9], [2])
-        self.assertEqual(report.wrong, 1)
-        self.assertEqual(report.found, ["round 1: 3 orders were replied to, and 2 are in the book"])
+        with mock.patch.object(kills, "new_book") as new, mock.patch.object(kills, "send_until_killed", send), \
+                mock.patch.object(kills, "found_in", side_effect=[[it] * kills.CLIENTS for it in in_the_book]):
+            counts = kills.kill_again_and_again(len(answered), report, None, "")
+        self.assertEqual(new.call_count, (len(answered) + 9) // 10)
+        return report, counts
 
-    def test_two_orders_without_a_reply_end_the_check(self):
-        self.assertEqual(self.found([3], [5]).wrong, 1)
+    def test_all_that_was_answered_and_one_in_flight_is_well(self):
+        report, counts = self.found([3, 9], [3, 13])
+        self.assertEqual((report.wrong, report.found), (0, []))
+        told = "2 kills: 48 orders were answered, 24 before each, and all are in the book with what followed them"
+        self.assertEqual(counts.told("kills"), f"{told}; 4.0 were in flight at each, and 4 of 8 are in the book")
+
+    def test_an_order_that_is_lost_or_was_not_sent_ends_the_check(self):
+        for found, is_in_flight in ((2, True), (5, True), (4, False)):
+            report, _ = self.found([3, 9], [found], is_in_flight)
+            told = f"round 1: orders of ALFA000: 3 were answered, and {found} are in the book"
+            self.assertEqual((report.wrong, report.found), (1, [told]))
+
+    def test_rounds_without_orders_show_nothing(self):
+        self.assertEqual(self.found([0], [0])[0].wrong, 1)
+        self.assertEqual(self.found([3], [3], False)[0].wrong, 1)
+
+    def test_a_book_serves_ten_rounds(self):
+        self.found([1] * 11, range(1, 12))
+
+    def test_the_orders_of_a_client_wait_and_settle_in_turn(self):
+        clients = [kills.Client(it) for it in range(kills.CLIENTS)]
+        self.assertGreaterEqual(len({key for it in clients for key in it.keys.values()}), 12)
+        clients[1].begins(5)
+        sent, answer = clients[1].order()
+        self.assertEqual(answer, "settled")
+        self.assertIn(b'{"amount": 1, "reference": "A-3", "to": "BETA001"}', sent)
+        clients[1].begins(6)
+        self.assertEqual(clients[1].order()[1], "queued")
+
+    def replied(self, *replies):
+        """Returns a client that sent orders to a server with these replies, which was then gone."""
+        client = kills.Client(0)
+        with socket.create_server(("127.0.0.1", 0)) as server:
+            def serve():
+                for reply in replies:
+                    with server.accept()[0] as link:
+                        link.recv(65536)
+                        link.sendall(reply)
+                server.close()
+
+            serving = threading.Thread(target=serve)
+            serving.start()
+            try:
+                client.sends(server.getsockname()[1])
+            finally:
+                serving.join()
+        return client
+
+    def test_a_reply_that_is_cut_off_is_none(self):
+        good = [kills.GOOD + f'Content-Length: {len(it)}\r\n\r\n{it}'.encode()
+                for it in ('{"answer":"queued"}', '{"answer":"settled"}')]
+        client = self.replied(*good, good[0][:-1])
+        self.assertEqual((client.next, client.is_in_flight), (2, True))
+        self.assertRaisesRegex(desks.Broken, "a server replied", self.replied, good[1])
+        for reply in good:
+            self.assertEqual([kills.is_whole(reply[:it]) for it in (-1, 20, 0)], [False] * 3)
 
     def test_a_copy_is_looked_at_in_place_of_the_book_and_the_pause_is_told(self):
         report = quiet()
 
-        def kills_twice(rounds, same, what, before_a_kill, end):
-            self.assertEqual((rounds, same, what, end), (5, report, "copies and kills", ".copy"))
+        def kills_twice(rounds, same, before_a_kill, end):
+            self.assertEqual((rounds, same, end), (5, report, ".copy"))
             before_a_kill("a server", "a book")
             before_a_kill("a server", "a book")
+            return mock.Mock(told=lambda what: what)
 
         with mock.patch.object(kills, "kill_again_and_again", side_effect=kills_twice), \
                 mock.patch.object(copies, "copy_held_still") as held:
             copies.run(mock.Mock(rounds=5), report)
         self.assertEqual(held.call_args_list, [mock.call("a server", "a book")] * 2)
-        self.assertRegex(report.found[-1], r"^held still for \d+ ms \(\d+ to \d+\)$")
+        self.assertRegex(report.found[0], r"^held still for \d+ ms \(\d+ to \d+\)$")
+        self.assertEqual(report.found[1], "copies and kills")
 
 
 class Documents(unittest.TestCase):
@@ -118,6 +173,31 @@ class Documents(unittest.TestCase):
                          [f"README.md names `{it}`" for it in ("Desk::none", "no_such_name")])
 
 
+    def test_a_document_calls_on_no_evidence_of_another_tree(self):
+        text = "evidence/README.md says it, evidence/gate.txt too, and [it](evidence/kills.txt)"
+        self.assertEqual(self.found(documents.called_on, "README.md", text, {"gate", "kills"}), [])
+        self.assertEqual(self.found(documents.called_on, "README.md", text, {"gate"}),
+                         ["README.md calls on evidence/kills.txt, which is of this tree"])
+
+    def states(self, lines, tree, own):
+        """Returns the findings, and the names of this tree, where these files stand in for those of evidence."""
+        report = quiet()
+        finding = findings.Finding("", findings.Tree("", *tree), "", "", True, [], lines)
+        found = {it: finding for it in ("asserted", "gate")}
+        with mock.patch.object(findings, "all_files", lambda: found), \
+                mock.patch.object(documents.evidence, "tree", lambda: findings.Tree("", *own)):
+            names = documents.states(report)
+        return report.wrong, names
+
+    def test_evidence_is_of_this_tree_or_says_what_its_tests_assert(self):
+        lines = documents.asserted.lines()
+        self.assertEqual(self.states(lines, "ab", "ab"), (0, {"asserted", "gate"}))
+        self.assertEqual(self.states(lines, "ab", "cb"), (0, {"asserted"}))
+        self.assertEqual(self.states(lines, "ab", "ac"), (0, {"asserted"}))
+        self.assertEqual(self.states(["A", *lines[1:]], "ab", "ab")[0], 1)
+        self.assertEqual(self.states(lines[:-1], "ab", "ab")[0], 1)
+
+
 class Handbooks(unittest.TestCase):
     TEXT = "Say:\n\n    $ desk init a\n    initialised\n\n    $ desk queue a\n\n```sql\n    $ no command\n```\n"
 
@@ -152,24 +232,26 @@ class Handbooks(unittest.TestCase):
                 _, out, err = handbooks.ended(lines)
                 self.assertFalse(out and err, command)
 
-    def test_a_row_of_the_table_of_faults_is_cut_into_its_cells(self):
-        row = "| Q3 | `DELETE FROM mark` | `1` and `2` | Q4 | 94 Inconsistent 9 |"
-        self.assertEqual(handbooks.table_of_faults(f"| a | b |\n{row}\n"),
-                         [["Q3", "DELETE FROM mark", "`1` and `2`", "Q4", "94 Inconsistent 9"]])
-        self.assertEqual(handbooks.rows_of("`1` and `2`"), ["1", "2"])
+    def test_a_fault_stands_under_its_query_with_what_is_found_of_it(self):
+        text = ("-- Q3, forms: none.\n-- more\nSELECT 'Q3';\nSELECT 1;\n-- fault: DELETE\n--        FROM mark\n"
+                "-- gives: `1` and `2`\n-- others: Q4 Q5\n-- desk: 94 Inconsistent 9\n"
+                "-- fault: VACUUM\n-- desk: opens it\n")
+        queries, faults = handbooks.audit_of(text)
+        self.assertEqual(queries, {"Q3": "SELECT 1;"})
+        self.assertEqual(faults, [("Q3", "DELETE FROM mark", ["1", "2"], ["Q4", "Q5"], "94 Inconsistent 9"),
+                                  ("Q3", "VACUUM", [], [], "opens it")])
 
     def test_the_handbooks_show_commands_queries_and_faults(self):
         self.assertGreater(len(handbooks.commands(handbooks.handbook("OPERATORS"), handbooks.SHOWN)), 50)
         self.assertGreater(len(handbooks.commands(handbooks.handbook("BANKS"), handbooks.SHOWN_TO_BANKS)), 5)
-        audit = handbooks.Audit(None, handbooks.handbook("AUDITORS"), None)
-        faults = handbooks.table_of_faults(handbooks.handbook("AUDITORS"))
-        self.assertGreater(len(faults), 10)
-        self.assertLessEqual({it[0] for it in faults} - {"none"}, set(audit.queries))
-        self.assertEqual({len(it) for it in faults}, {5})
+        queries, faults = handbooks.audit_of(handbooks.document(handbooks.QUERIES))
+        self.assertEqual(len(faults), handbooks.document(handbooks.QUERIES).count("-- fault: "))
+        self.assertEqual({it.query for it in faults} - set(queries), {"What no query finds"})
+        self.assertEqual(set(queries) - {it.query for it in faults}, set())
 
 
 class Edges(unittest.TestCase):
-    """The program is stood in for by what a run comes to."""
+    """How a run ends stands in for the program."""
 
     def test_an_answer_names_a_refusal_or_what_is_printed(self):
         self.assertEqual(edges.wanted("!19 ALFA 1"), (runs.Ran(1, "", "refused 19 Overdrawn ALFA 1\n"), False))
@@ -177,7 +259,7 @@ class Edges(unittest.TestCase):
         self.assertEqual(edges.wanted("opened / auto"), (runs.Ran(0, "opened\nauto\n"), True))
 
     def tried(self, answer, line="init @", content=None):
-        """Returns what is found where a run comes to this, and leaves this in the book's file."""
+        """Returns what is found where a run ends so, and leaves this in the book's file."""
         report = quiet()
 
         def run(*_, **how):
@@ -308,7 +390,8 @@ class Plants(unittest.TestCase):
         report = self.found("    proves      src/a.rt:3 f: { None }\nplants crate=low proves=1 refused=2\n")
         self.assertEqual((report.right, report.wrong), (1, 0))
         proved = "    proves      src/a.rt:3 f: { None }"
-        self.assertEqual(report.found, ["low: plants crate=low proves=1 refused=2", proved])
+        last = "1 crates: 1 wrong bodies are proved, each listed for a reader to judge"
+        self.assertEqual(report.found, ["low: plants crate=low proves=1 refused=2", proved, last])
 
     def test_a_crate_that_is_not_judged_is_wrong(self):
         self.assertEqual(self.found("rt: low is not proved\n").wrong, 1)

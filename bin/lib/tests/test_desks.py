@@ -50,8 +50,8 @@ class Runs(Desks):
 
     def test_a_build_that_fails_is_told(self):
         with mock.patch.object(desks.kit, "TOP", self.folder):
-            os.mkdir(f"{self.folder}/bin")
-            with open(f"{self.folder}/bin/desk", "w", encoding="utf-8") as it:
+            os.makedirs(f"{self.folder}/bin/lib")
+            with open(f"{self.folder}/bin/lib/program", "w", encoding="utf-8") as it:
                 it.write("#!/bin/sh\nexit 3\n")
             os.chmod(it.name, 0o755)
             with self.assertRaisesRegex(desks.Broken, "not built"):

@@ -236,6 +236,12 @@ class Installing(unittest.TestCase):
         with open(f"{kit.TOP}/{path}", encoding="utf-8") as it:
             self.assertIn('commit $Format:%H$"', it.read())
 
+    def test_a_program_that_is_not_proved_is_not_installed(self):
+        said = {**TEXTS, ("--version",): "desk 1.2, tables 3, not proved, commit x\n"}
+        with mock.patch.object(desks, "desk", lambda *words: said[words]):
+            self.assertRaisesRegex(desks.Broken, "not proved", installing.install, self.prefix, print)
+        self.assertFalse(os.path.exists(self.prefix))
+
     def test_the_unit_has_the_prefix_and_one_that_it_cannot_have_is_refused(self):
         self.installed()
         unit = desks.content(f"{self.prefix}/{installing.UNIT}").decode()

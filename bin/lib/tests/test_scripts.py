@@ -1,58 +1,16 @@
-"""The scripts as they are called, in a tree that has them, two crates and no program, with a stand-in for the kit."""
+"""The scripts as they are called, in a tree that has them, with a stand-in for the kit."""
 import ast
 import os
 import re
-import shutil
 import subprocess
 import sys
 import unittest
 
 import kit
-from lib import desks
+from trees import Scripts
 
-HERE = os.path.dirname(os.path.realpath(__file__))
 SCRIPTS = sorted(it for it in os.listdir(f"{kit.TOP}/bin") if os.access(f"{kit.TOP}/bin/{it}", os.X_OK)
                  and os.path.isfile(f"{kit.TOP}/bin/{it}"))
-EDITS = {"must-fail": ["a"], "more-mutants": ["b", "missed", "lost"]}
-
-
-class Scripts(unittest.TestCase):
-    def setUp(self):
-        folder = desks.room()
-        self.addCleanup(folder.cleanup)
-        self.top, self.path = f"{folder.name}/tree", f"{folder.name}/path"
-        shutil.copytree(f"{kit.TOP}/bin", f"{self.top}/bin", ignore=shutil.ignore_patterns("__pycache__"))
-        os.makedirs(f"{self.top}/crates/low/src")
-        os.makedirs(f"{self.top}/crates/desk/src")
-        for it in ("crates.txt", "HANDLES", "crates/desk/src/main.rt"):
-            self.write(it, "")
-        os.mkdir(self.path)
-        shutil.copy(f"{HERE}/fake_rt.py", f"{self.path}/rt")
-
-    def write(self, name, text):
-        os.makedirs(os.path.dirname(f"{self.top}/{name}"), exist_ok=True)
-        with open(f"{self.top}/{name}", "w", encoding="utf-8") as it:
-            it.write(text)
-
-    def read(self, name):
-        with open(f"{self.top}/{name}", encoding="utf-8") as it:
-            return it.read()
-
-    def run_script(self, name, *words):
-        env = {**os.environ, "PATH": f"{self.path}:{os.environ['PATH']}"}
-        return subprocess.run([f"{self.top}/bin/{name}", *words], env=env, capture_output=True, text=True, check=False)
-
-    def called(self):
-        """Returns the commands of the kit that were called."""
-        if not os.path.exists(f"{self.path}/called"):
-            return []
-        with open(f"{self.path}/called", encoding="utf-8") as it:
-            return it.read().splitlines()
-
-    def edits(self):
-        for folder, names in EDITS.items():
-            for it in names:
-                self.write(f"crates/low/{folder}/{it}.edit", "file: src/lib.rt\nold: a\nnew: b\n")
 
 
 class Help(Scripts):
@@ -67,8 +25,8 @@ class Help(Scripts):
 
     def test_each_check_has_help_that_starts_nothing(self):
         listed = [it.split()[0] for it in self.run_script("checks", "--list").stdout.splitlines()]
-        wanted = ("clients copies creations documents edges handbooks hostile-files install kept-books kills "
-                  "migrations openapi plants proxy refusals")
+        wanted = ("asserted clients copies creations documents edges handbooks hostile-files install kept-books kills "
+                  "migrations openapi plants power-cuts proxy random-days refusals served")
         self.assertEqual(sorted(listed), wanted.split())
         for name in listed:
             self.assertIn("--no-evidence", self.run_script("checks", name, "--help").stdout)
@@ -102,7 +60,7 @@ class Style(unittest.TestCase):
 class Kit(Scripts):
     def test_only_one_file_calls_into_the_kits_scripts(self):
         calls = r"\.(in_lanes|must_fail|read_edit|build_rlib)\("
-        words = (r"\brtlib", r"\[.rt.,", calls, r"kit\.scripts", r"SourceFileLoader")
+        words = (r"\brtlib", r"\[.rt.,", calls, r"kit\.scripts", r"SourceFileLoader\(.rt.")
         of_kit = re.compile("|".join(words))
         found = []
         for folder, folders, files in os.walk(f"{kit.TOP}/bin"):
@@ -113,21 +71,17 @@ class Kit(Scripts):
                         found.append(name)
         self.assertEqual(found, ["kit.py"])
 
-    def test_a_program_that_is_missing_is_built_before_it_runs(self):
-        ran = self.run_script("desk", "--version")
-        self.assertEqual((ran.returncode, self.called()), (0, ["run"]))
-        self.assertIn("1 crates to prove", ran.stderr)
-        self.run_script("desk", "--version")
-        self.assertEqual(self.called(), ["run"])
-
     def test_the_gate_keeps_what_it_prints_and_writes_evidence_of_a_whole_run(self):
+        self.commit()
         ran = self.run_script("gate-times", "--memory", "0.5", "--anew")
         self.assertEqual(ran.returncode, 0)
         lines = ran.stdout.splitlines()
         self.assertEqual((lines[0], lines[-1]), ("ran ci --anew", "2 passed, 0 failed"))
-        head, machine, _, table, *_, last = self.read("evidence/gate.txt").splitlines()
-        self.assertRegex(head, "^bin/gate-times --memory 0.5 --anew over .*, by a kit of the tests$")
-        self.assertRegex(machine, r"^\d+ seconds on 2 processors, ended ")
+        head, over, machine, _, shows, rest, _, table, *_, last = self.read("evidence/gate.txt").splitlines()
+        self.assertEqual(head, "bin/gate-times --memory 0.5 --anew")
+        self.assertEqual((shows[:7], rest[:13]), ("Shows: ", "Cannot show: "))
+        self.assertRegex(over, r"^over commit \w{40}, crates \w{12}, bin \w{12}, by a kit of the tests$")
+        self.assertRegex(machine, r"^\d+ seconds on 2 processors, ended .*: all as it must be$")
         self.assertEqual((lines[1][:6], table, last), ("rt: ok", lines[2], "2 passed, 0 failed"))
         self.assertIn("the gate: 0.0 lane-minutes, within the limit of 260", lines)
 
@@ -138,8 +92,27 @@ class Kit(Scripts):
             self.assertRegex(it, "0.0 lane-minutes, the rest was kept from earlier runs, so the limit of .* is not")
 
     def test_the_gate_of_some_crates_writes_none(self):
+        self.commit()
         self.assertIn("ran ci low", self.run_script("gate-times", "low").stdout)
         self.assertFalse(os.path.exists(f"{self.top}/evidence"))
+
+    def test_runs_of_the_gate_are_kept_and_put_together(self):
+        self.commit()
+        for _ in range(2):
+            self.assertEqual(self.run_script("gate-times").returncode, 0)
+        paths = [f"{self.top}/out/gate/{it}" for it in os.listdir(f"{self.top}/out/gate")]
+        self.assertEqual(len(paths), 2)
+        ran = self.run_script("gate-times", "--join", *paths)
+        self.assertEqual((ran.returncode, ran.stderr), (0, ""))
+        text = self.read("evidence/gate.txt")
+        self.assertTrue(text.startswith("bin/gate-times --join, of 2 runs\nover commit "), text)
+        self.assertTrue(text.endswith(ran.stdout) and ran.stdout.endswith("\n2 passed, 0 failed\n"), text)
+        self.write("crates/low/src/more.rt", "")
+        self.assertEqual(self.run_script("gate-times").returncode, 0)
+        paths = [f"{self.top}/out/gate/{it}" for it in os.listdir(f"{self.top}/out/gate")]
+        ran = self.run_script("gate-times", "--join", *paths)
+        self.assertEqual((ran.returncode, ran.stdout), (1, ""))
+        self.assertIn("is of a tree that no commit has", ran.stderr)
 
     def test_edits_are_tried_over_what_was_kept_and_then_from_nothing(self):
         self.edits()
@@ -174,25 +147,38 @@ class Checks(Scripts):
         super().setUp()
         self.write("crates/desk/out/desk", "#!/bin/sh\necho refused; exit 3\n")
         os.chmod(f"{self.top}/crates/desk/out/desk", 0o755)
-        # (the runner has the program's version told, which must do)
-        self.write("bin/desk", "#!/bin/sh\n")
-        os.chmod(f"{self.top}/bin/desk", 0o755)
+        self.write("bin/lib/program", "#!/bin/sh\n")
+        os.chmod(f"{self.top}/bin/lib/program", 0o755)
 
     def test_a_check_that_cannot_go_on_fails_and_the_next_one_runs(self):
+        self.commit()
         ran = self.run_script("checks", "kills", "--rounds", "2", "copies", "--rounds", "3")
         self.assertEqual((ran.returncode, ran.stdout.count("could not go on: desk init ")), (1, 2))
         for name, rounds in (("kills", 2), ("copies", 3)):
-            head, _, _, found = self.read(f"evidence/{name}.txt").splitlines()
-            self.assertRegex(head, f"^bin/checks {name} --rounds {rounds} over .*, by a kit of the tests$")
-            self.assertIn("could not go on", found)
+            text = self.read(f"evidence/{name}.txt")
+            self.assertTrue(text.startswith(f"bin/checks {name} --rounds {rounds}\nover commit "), text)
+            self.assertIn(": NOT ALL AS IT MUST BE\n", text)
+            self.assertIn("\n\ncould not go on: desk init ", text)
 
     def test_none_is_written_where_it_is_not_wanted_or_a_check_is_not_whole(self):
+        self.commit()
         self.run_script("checks", "kills", "--rounds", "2", "--no-evidence", "hostile-files", "--only", "VACUUM")
         self.assertFalse(os.path.exists(f"{self.top}/evidence"))
 
+    def test_none_is_written_of_a_tree_that_no_commit_has_and_that_is_said_first(self):
+        self.commit()
+        self.write("crates/low/src/more.rt", "")
+        ran = self.run_script("checks", "kills", "--rounds", "2")
+        told = "bin/checks: no evidence can be written: no commit has crates/ and bin/ as they are\n"
+        self.assertTrue(ran.stderr.startswith(told), ran.stderr)
+        self.assertIn("could not go on", ran.stdout)
+        self.assertFalse(os.path.exists(f"{self.top}/evidence"))
+        ran = self.run_script("checks", "all")
+        self.assertEqual((ran.returncode, ran.stdout, ran.stderr), (1, "", told))
+
     def test_a_build_that_fails_ends_all(self):
-        self.write("bin/desk", "#!/bin/sh\nexit 3\n")
-        ran = self.run_script("checks", "kills")
+        self.write("bin/lib/program", "#!/bin/sh\nexit 3\n")
+        ran = self.run_script("checks", "kills", "--no-evidence")
         self.assertEqual((ran.returncode, ran.stderr), (1, "checks: the program is not built\n"))
 
 

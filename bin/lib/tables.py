@@ -1,0 +1,40 @@
+"""The tables that documents take from the code. Each stands between two lines of comments, which name it."""
+import re
+
+import kit
+from lib import stated
+
+BEGIN, END = "<!-- {0}: written by bin/tables -->", "<!-- end of {0} -->"
+
+
+def refusals():
+    """Returns the refusals that a run may meet, and what the program says is to be done after each."""
+    ends = {number: end for number, (_, _, end) in stated.refusals().items()}
+    rows = [f"| {head} | {what} |" for head, _, _, what in stated.explanations() if ends[int(head[:2])] is not None]
+    return "\n".join(["| refusal | what to do |", "|---|---|", *rows])
+
+
+# which documents have which tables, and what makes each
+TABLES = {"docs/OPERATORS.md": {"refusals": refusals}}
+
+
+def written(name, text):
+    """Returns the text of a document with its tables, as they are to be."""
+    for table, made in TABLES[name].items():
+        begin, end = BEGIN.format(table), END.format(table)
+        place = re.compile(f"{re.escape(begin)}\n.*?{re.escape(end)}", re.S)
+        if len(place.findall(text)) != 1:
+            raise ValueError(f"{name} has no one place for the table {table}")
+        text = place.sub(lambda _, lines=f"{begin}\n\n{made()}\n\n{end}": lines, text)
+    return text
+
+
+def differing():
+    """Returns for each document whose tables differ what it must be."""
+    found = {}
+    for name in TABLES:
+        there = stated.content(f"{kit.TOP}/{name}")
+        wanted = written(name, there)
+        if wanted != there:
+            found[name] = wanted
+    return found

@@ -1,0 +1,85 @@
+"""The groups of checks that bin/checks runs, with a stand-in for each check."""
+import contextlib
+import importlib.machinery
+import importlib.util
+import io
+import unittest
+from unittest import mock
+
+import kit
+from lib import desks
+
+LOADER = importlib.machinery.SourceFileLoader("checks_script", f"{kit.TOP}/bin/checks")
+checks = importlib.util.module_from_spec(importlib.util.spec_from_loader(LOADER.name, LOADER))
+LOADER.exec_module(checks)
+# what a run of all of them must have, beside what the gate has
+ALL = ("handbooks", "migrations", "creations", "hostile-files", "refusals", "kills", "copies", "install", "openapi",
+       "clients", "proxy")
+
+
+class Groups(unittest.TestCase):
+    def run_main(self, *words, without=(), wrong=()):
+        """Runs bin/checks where these tools are missing and these checks go wrong. Returns its exit status, what it
+        prints, and the words of each check that ran."""
+        ran, out = [], io.StringIO()
+
+        def run_check(its, given):
+            ran.append(its)
+            return given.name not in wrong
+
+        def installed(tool):
+            return tool not in without
+
+        with mock.patch.object(checks, "run_check", run_check), mock.patch.object(desks, "installed", installed), \
+                mock.patch.object(desks, "build"), contextlib.redirect_stdout(out):
+            status = checks.main(list(words))
+        return status, out.getvalue().splitlines(), ran
+
+    def test_the_gate_runs_what_promises_rest_on(self):
+        status, lines, ran = self.run_main("gate", "--no-evidence")
+        self.assertEqual((status, ran), (0, [[it, "--no-evidence"] for it in ("served", "kept-books", "edges")]))
+        self.assertEqual([it.split()[0] for it in lines], ["served", "kept-books", "edges"])
+        self.assertTrue(all(it.endswith("  all as it must be") for it in lines), lines)
+        self.assertLessEqual(set(checks.PROMISED), set(checks.GATE))
+
+    def test_all_runs_each_check_once_and_what_is_wrong_is_told(self):
+        status, lines, ran = self.run_main("all", "--no-evidence", wrong=["kills"])
+        names = [it[0] for it in ran]
+        self.assertEqual((status, sorted(names)), (1, sorted(set(checks.NAMES) - {"plants"})))
+        self.assertLessEqual({*ALL, *checks.GATE}, set(names))
+        self.assertEqual(len(lines), len(names))
+        (kills,) = [it for it in lines if it.startswith("kills ")]
+        self.assertRegex(kills, r"^kills +0 seconds  NOT ALL AS IT MUST BE$")
+
+    def test_what_lacks_a_tool_is_left_out_and_named(self):
+        status, lines, ran = self.run_main("all", "--no-evidence", without=["node", "nginx", "cc"])
+        self.assertEqual(status, 0)
+        left = {"clients", "proxy", "creations", "refusals", "plants"}
+        self.assertEqual({it[0] for it in ran}, set(checks.NAMES) - left)
+        self.assertEqual([it for it in lines if "left out" in it], [
+            "edges, lack of memory: left out, since there is no cc", "creations: left out, since there is no cc",
+            "refusals: left out, since there is no cc", "clients: left out, since there is no node",
+            "proxy: left out, since there is no nginx"])
+
+    def test_no_gate_is_passed_without_what_promises_rest_on(self):
+        for name in checks.PROMISED:
+            with mock.patch.object(checks.check_of(name), "NEEDS", ("ed", "cc"), create=True):
+                for words in (["gate", "--tools"], ["gate", "--no-evidence"], ["all", "--no-evidence"]):
+                    status, lines, ran = self.run_main(*words, without=["ed"])
+                    self.assertIn(f"{name}: left out, since there is no ed", lines)
+                    self.assertEqual((status, name in [it[0] for it in ran]), (1, False))
+                self.assertEqual(self.run_main("gate", "--tools"), (0, [], []))
+
+    def test_the_tools_of_a_group_are_told_and_nothing_runs(self):
+        line = "edges, lack of memory: left out, since there is no cc"
+        self.assertEqual(self.run_main("gate", "--tools", without=["cc"]), (0, [line], []))
+
+    def test_ci_says_first_what_it_leaves_out_and_then_runs_the_group(self):
+        with open(f"{kit.TOP}/.ci/run", encoding="utf-8") as it:
+            first, gate, last = it.read().partition("rt ci || exit")
+        self.assertIn("bin/checks gate --tools && ", first)
+        self.assertIn("bin/checks gate --no-evidence", last)
+
+
+if __name__ == "__main__":
+    unittest.main()

@@ -1,0 +1,61 @@
+"""The tables that documents take from the code, and the counts of lines."""
+import importlib.machinery
+import importlib.util
+import os
+import re
+import unittest
+from unittest import mock
+
+import kit
+from lib import desks, stated, tables
+
+BEGIN, END = tables.BEGIN.format("few"), tables.END.format("few")
+
+
+def sizes():
+    """Returns bin/sizes as a module."""
+    loader = importlib.machinery.SourceFileLoader("sizes", f"{kit.TOP}/bin/sizes")
+    made = importlib.util.module_from_spec(importlib.util.spec_from_loader("sizes", loader))
+    loader.exec_module(made)
+    return made
+
+
+class Tables(unittest.TestCase):
+    def written(self, text):
+        with mock.patch.dict(tables.TABLES, {"a.md": {"few": lambda: "| a |"}}):
+            return tables.written("a.md", text)
+
+    def test_a_table_is_written_between_its_lines_and_nowhere_else(self):
+        whole = f"Before.\n{BEGIN}\n\n| a |\n\n{END}\nAfter.\n"
+        self.assertEqual(self.written(f"Before.\n{BEGIN}\nold\n{END}\nAfter.\n"), whole)
+        self.assertEqual(self.written(whole), whole)
+
+    def test_a_document_without_the_place_of_its_table_is_a_fault(self):
+        for text in ("", f"{BEGIN}\n", f"{BEGIN}\n{END}\n{BEGIN}\n{END}\n"):
+            self.assertRaises(ValueError, self.written, text)
+
+    def test_each_refusal_of_a_run_has_a_row(self):
+        rows = re.findall(r"^\| (\d\d) ", tables.refusals(), re.M)
+        wanted = [it for it, of in sorted(stated.refusals().items()) if of[2] is not None]
+        self.assertEqual([int(it) for it in rows], wanted)
+        self.assertGreater(len(rows), 30)
+
+
+class Sizes(unittest.TestCase):
+    def test_the_headline_has_the_files_that_its_comment_counts(self):
+        script = sizes()
+        files = [it for listed in script.headline().values() for it in listed]
+        counted = re.search(r"read these (\d+) files:[^\n]*\n(?:// [^\n]*\n)*pub fn make_and_live\b",
+                            stated.content(f"{script.CRATES}/rtgs_promises/src/headline.rt"))
+        self.assertEqual(len(files), int(counted[1]))
+        self.assertTrue(all(os.path.isfile(it) for it in files))
+
+    def test_lines_are_counted_and_crates_of_tests_known(self):
+        script = sizes()
+        with desks.room() as folder:
+            for name, text in (("a", "1\n2\n"), ("b", "3\n")):
+                with open(f"{folder}/{name}", "w", encoding="utf-8") as it:
+                    it.write(text)
+            self.assertEqual(script.lines_of([f"{folder}/a", f"{folder}/b"]), 3)
+        known = {it: script.is_of_tests(f"{script.CRATES}/{it}/src/lib.rt") for it in ("rtgs_book", "rtgs_cli_trials")}
+        self.assertEqual(known, {"rtgs_book": False, "rtgs_cli_trials": True})
