@@ -20,7 +20,7 @@ struct Sample<'a> {
     good: bool,
 }
 
-/// Measures bodies of about so many bytes: an order among spaces, and two that are refused, an object with many keys
+/// Measures bodies of about this many bytes: an order among spaces, and two that are refused, an object with many keys
 /// and a file of orders whose one row has a long reference.
 pub fn measure(rt: &HostRuntime, length: usize, timed: bool) -> Result<()> {
     let order = BankRoute::SendOrder;
@@ -37,7 +37,7 @@ pub fn measure(rt: &HostRuntime, length: usize, timed: bool) -> Result<()> {
     measure_body(rt, field, timed)
 }
 
-/// Measures a file of so many orders.
+/// Measures a file of this many orders.
 pub fn measure_rows(rt: &HostRuntime, rows: usize, timed: bool) -> Result<()> {
     let rows = rows_of(rt.alloc(), rows)?;
     let rows = sample_of("rows", BankRoute::SendBatch, rows.as_bytes(), true);
@@ -121,7 +121,7 @@ fn field_of(alloc: Global, length: usize) -> Result<String, AllocError> {
     Ok(body)
 }
 
-// A file of so many orders.
+// A file of this many orders.
 fn rows_of(alloc: Global, rows: usize) -> Result<String, AllocError> {
     let mut body = String::new(alloc);
     body.push_str("reference,to,amount\n")?;

@@ -7,7 +7,7 @@ use std::time::{Duration, Instant};
 
 const TIMES: usize = 20;
 
-/// Measures a head of so many bytes.
+/// Measures a head of this many bytes.
 pub fn measure(rt: &HostRuntime, length: usize, timed: bool) -> Result<()> {
     let head = head_of(rt.alloc(), length)?;
     let operator = Key::read(b"0000000000000000000000000000000f")?.digest();
@@ -36,7 +36,7 @@ pub fn measure(rt: &HostRuntime, length: usize, timed: bool) -> Result<()> {
     Ok(())
 }
 
-// A bank's GET with 30 fields more, so many bytes long.
+// A bank's GET with 30 fields more, this many bytes long.
 fn head_of(alloc: Global, length: usize) -> Result<String, AllocError> {
     let mut head = String::new(alloc);
     head.push_str("GET /account HTTP/1.1\r\ndesk-key: 0000000000000000000000000000000a\r\n")?;

@@ -21,7 +21,7 @@ fn poor(alloc: Global) -> Result<Positions, OutOfMemory> {
     Ok(positions)
 }
 
-/// So many payments of one cent to a receiver.
+/// This many payments of one cent to a receiver.
 fn cents_to(alloc: Global, receiver: usize, count: usize) -> Result<Vec<Payment>, AllocError> {
     let mut queue = Vec::new(alloc);
     for _ in 0..count {
@@ -44,7 +44,7 @@ fn cascade(alloc: Global, each: usize) -> Result<Queues, OutOfMemory> {
     Ok(queues)
 }
 
-/// Measures the resolution of a cascade of so many payments in each queue.
+/// Measures the resolution of a cascade of this many payments in each queue.
 pub fn measure<R: Print + Clock + Alloc<A = Global>>(
     rt: &R,
     each: usize,
