@@ -199,7 +199,7 @@ fn a_posting_a_limit_and_a_withdrawal_free_orders(rt: HostRuntime) -> Result<(),
     follows_both(&rt, "automatic_freed", AUTOMATIC_DAY, FREED)
 }
 
-/// A beginning of the second line is printed where standard output takes thirteen bytes. What the line tells of stands.
+/// A beginning of the second line is printed where standard output takes thirteen bytes. What the line is about stands.
 const UNHEARD: &str = "
 $ orders @.csv A-1,BETA,100
 $ desk import @ ALFA @.csv
@@ -308,7 +308,7 @@ fn an_open_day_keeps_its_choice(rt: HostRuntime) -> Result<(), Fail> {
     follows_both(&rt, "choices", AUTOMATIC_DAY, CHOICES)
 }
 
-/// The flag stands in each place behind `open`, before a date that is of no form too.
+/// The flag stands in each place behind `open`, before a malformed date too.
 const PLACES: &str = "
 $ desk open @ --automatic 2024-02-30
 ! refused 35 BadDate

@@ -97,7 +97,7 @@ fn a_bad_file_is_not_taken(rt: HostRuntime) -> Result<(), Fail> {
     follows_both(&rt, "bad", DAY, BAD)
 }
 
-/// A file of one order that has so many bytes.
+/// A file of one order that has this many bytes.
 const LONG: &str = r#"
 $ file short.csv reference,to,amount\nA-1,BETA,100\n
 $ filled short.csv long.csv 65536
@@ -142,7 +142,7 @@ fn orders_stand_where_their_results_are_lost(rt: HostRuntime) -> Result<(), Fail
     follows_both(&rt, "lost", DAY, LOST)
 }
 
-/// A step that writes a file of so many orders of one cent, and the line that imports it.
+/// A step that writes a file of this many orders of one cent, and the line that imports it.
 fn many_of(alloc: Global, count: u32) -> Result<String, Fail> {
     let mut many = String::from_str(alloc, "\n$ orders many.csv")?;
     for number in 1..=count {
@@ -167,7 +167,7 @@ fn answer_again(alloc: Global, number: u32) -> Result<String, AllocError> {
     format!(in alloc; "> A-{number},repeated,{number},{state}\n")
 }
 
-/// The import of so many orders, with the whole of its result file.
+/// The import of this many orders, with the whole of its result file.
 fn import_of(alloc: Global, count: u32, again: bool) -> Result<String, Fail> {
     let mut script = many_of(alloc, count)?;
     for number in 1..=count {

@@ -18,7 +18,7 @@ $ desk withdraw @ ALFA A-3
 $ copy @ @.book
 ";
 
-/// What the desk tells of that day.
+/// What the desk says of that day.
 const READINGS: &str = "
 $ desk report @ 2024-03-04
 > report 2024-03-04
@@ -94,7 +94,7 @@ report @ 2024-03-04
 serve @ --port 8080 --count 1 --operator-key 0000000000000000000000000000000f";
 
 /// They are brought to the newest version once. The file is then whole without its log: a copy of it alone has the
-/// version, so many due dates, and one row that says that no day is automatic, or else what is inserted has no value,
+/// version, this many due dates, and one row that says that no day is automatic, or else what is inserted has no value,
 /// which is refused.
 const MIGRATED: &str = "
 $ desk migrate @
@@ -120,7 +120,7 @@ $ desk resolve @
 > resolved mark 3 count 1 value 25
 ";
 
-/// A book with tables of an older version, with so many due dates, is brought to the newest, tells the same then, and
+/// A book with tables of an older version, with this many due dates, is brought to the newest, tells the same then, and
 /// goes on.
 fn is_brought_on(rt: &HostRuntime, book: &str, older: &str, dues: &str) -> Result<(), Fail> {
     follows(rt, book, READINGS)?;

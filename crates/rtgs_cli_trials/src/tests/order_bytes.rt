@@ -5,7 +5,7 @@ use std::io;
 use std::io::{ErrorKind, Read};
 use std::test::Fail;
 
-// Gives so many bytes, at most a thousand at a time, and then fails or ends.
+// Gives a number of bytes, at most a thousand at a time, and then fails or ends.
 #[derive(Clone, Copy)]
 struct Giving {
     left: usize,
@@ -23,7 +23,7 @@ impl Read for Giving {
     }
 }
 
-// How many bytes are read of so many.
+// How many bytes are read of this many.
 fn count_of(rt: &HostRuntime, left: usize) -> Result<usize, Fail> {
     let reader = Giving { left, fails: false };
     Ok(read_bytes(rt.alloc(), reader)?.len())

@@ -12,7 +12,7 @@ pub struct Paper {
 }
 
 impl Paper {
-    /// With room for so many bytes.
+    /// With room for this many bytes.
     pub fn new(alloc: Global, room: usize) -> Paper {
         Paper {
             taken: Vec::new(alloc),

@@ -1,4 +1,4 @@
-//! What the desk tells of accounts, queues and orders, as JSON, and withdrawals.
+//! What the desk says of accounts, queues and orders, as JSON, and withdrawals.
 use super::imports::DAY;
 use super::script::{follows, follows_both};
 use std::test::Fail;

@@ -48,7 +48,7 @@ pub fn end_of(ended: &Ended) -> &'static str {
     }
 }
 
-/// Runs the program with these words, where standard output and standard error take so many bytes.
+/// Runs the program with these words, where standard output and standard error take these numbers of bytes.
 pub fn run(rt: &HostRuntime, words: &[&str], out_room: usize, err_room: usize) -> Outcome {
     let mut out = Paper::new(rt.alloc(), out_room);
     let mut err = Paper::new(rt.alloc(), err_room);

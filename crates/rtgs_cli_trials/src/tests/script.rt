@@ -144,8 +144,8 @@ pub fn shown_of(alloc: Global, kind: &str, expected: &str, run: &Outcome) -> Res
     Ok(shown)
 }
 
-/// What a step of this kind shows of a run with these words, where standard output and standard error take so many
-/// bytes.
+/// What a step of this kind shows of a run with these words, where standard output and standard error take these
+/// numbers of bytes.
 fn shown_by_run(
     rt: &HostRuntime,
     kind: &str,

@@ -2,7 +2,7 @@
 use super::draw::Draw;
 use std::alloc::{AllocError, Global};
 
-/// A change of bytes: at a place so many are gone, and others stand there.
+/// A change of bytes: at a place a number of them are gone, and others stand there.
 #[derive(Clone, Copy)]
 pub struct Edit<'a> {
     pub at: usize,
@@ -18,7 +18,7 @@ pub fn parts(bytes: &[u8], at: usize) -> (&[u8], &[u8]) {
     }
 }
 
-/// So many bytes from this place on, or as many as there are.
+/// This many bytes from this place on, or as many as there are.
 pub fn piece(bytes: &[u8], at: usize, length: usize) -> &[u8] {
     let (_, rest) = parts(bytes, at);
     parts(rest, length).0

@@ -93,7 +93,7 @@ fn file_of(
     }
 }
 
-// Adds the words for what reports show on so many files that are made of this one, by a seed or without one.
+// Adds the words for what reports show on this many files that are made of this one, by a seed or without one.
 fn meet_all(
     rt: &HostRuntime,
     file: &str,

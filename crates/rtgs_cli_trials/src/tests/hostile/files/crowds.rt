@@ -6,7 +6,7 @@ use crate::tests::script::{follows, follows_each};
 use std::fmt::Write;
 use std::test::Fail;
 
-// A report on the book with so many views more is that on the book, up to a hundred objects, and refused above that.
+// A report on the book with N views more is that on the book, up to a hundred objects, and refused above that.
 // An opening would compare each of them with each other. Of 30000 that would take minutes, and a test has one.
 const FEW: &str = "\
 views @.book @ 1

@@ -40,7 +40,7 @@ fn filled(alloc: Global, bytes: &[u8], length: u32) -> Result<Vec<u8>, AllocErro
     Ok(filled)
 }
 
-// A book with so many views more, whose header says that each page ends in a checksum, and none does.
+// A book with this many views more, whose header says that each page ends in a checksum, and none does.
 fn without_sums(alloc: Global, book: &[u8], count: u32) -> Result<Vec<u8>, AllocError> {
     let file = with_views(alloc, book, count)?;
     let sums = Edit {
@@ -51,9 +51,9 @@ fn without_sums(alloc: Global, book: &[u8], count: u32) -> Result<Vec<u8>, Alloc
     edited(alloc, file.as_slice(), sums)
 }
 
-/// A file that is made of the bytes of another: a `copy`; `filled` by its last byte up to a length; a book with so many
-/// `views` more, or with those and `no_sums` that its header tells of; or one with many pages that lead to one another
-/// in `circles` by so many steps.
+/// A file that is made of the bytes of another: a `copy`; `filled` by its last byte up to a length; a book with this
+/// many `views` more, or with those and `no_sums` that its header says are there; or one with many pages that lead to
+/// one another in `circles` by this many steps.
 pub fn made(alloc: Global, kind: &str, bytes: &[u8], number: u32) -> Result<Vec<u8>, Fail> {
     let made = match kind {
         "copy" => Vec::from_slice(alloc, bytes),

@@ -12,7 +12,7 @@ const OWN: u32 = 11;
 // What the page of its list has before the objects themselves: eight bytes, and two for the place of each.
 const LIST_HEAD: usize = 30;
 
-// What the list has of a view, and what its root has of a page below it: so many bytes each.
+// What the list has of a view, and what its root has of a page below it: this many bytes each.
 const VIEW: usize = 56;
 
 const CHILD: usize = 7;
@@ -87,7 +87,7 @@ fn with_own(alloc: Global, book: &[u8]) -> Result<Vec<u8>, AllocError> {
     Ok(file)
 }
 
-// The file with a root of its list that has these children, the last of which is this page, and so many pages.
+// The file with a root of its list that has these children, the last of which is this page, and this many pages.
 fn with_root(
     alloc: Global,
     file: &[u8],
@@ -116,7 +116,7 @@ fn push_views(alloc: Global, file: &mut Vec<u8>, first: u32, last: u32) -> Resul
     push_page(file, 13, &[], cells.as_slice(), VIEW)
 }
 
-/// The book with so many views more, at least one and 30000 at most.
+/// The book with this many views more, at least one and 30000 at most.
 pub fn with_views(alloc: Global, book: &[u8], count: u32) -> Result<Vec<u8>, AllocError> {
     let mut file = with_own(alloc, book)?;
     let mut page = (book.len() / PAGE % 65536) as u32 + 1;
@@ -159,7 +159,7 @@ fn push_circle(
 }
 
 /// The book with ten megabytes of pages more under the root of its list, each of which has a hundred of them below it:
-/// each by so many steps behind the last.
+/// each by this many steps behind the last.
 pub fn with_circles(alloc: Global, book: &[u8], step: u32) -> Result<Vec<u8>, AllocError> {
     let mut file = with_own(alloc, book)?;
     let own = (book.len() / PAGE % 65536) as u32 + 1;

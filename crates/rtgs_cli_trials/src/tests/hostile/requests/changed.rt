@@ -8,8 +8,8 @@ use super::serving::{before, serve};
 use std::alloc::{AllocError, Global};
 use std::test::Fail;
 
-/// What is changed of a request: the length of its body, its body, one or two values of that, or so many times at most
-/// any bytes.
+/// What is changed of a request: the length of its body, its body, one or two values of that, or any bytes, this many
+/// times at most.
 #[derive(Clone, Copy)]
 enum What {
     Length,
@@ -27,7 +27,7 @@ fn times(what: What) -> usize {
     }
 }
 
-// The bytes with so many changes at most, and with one at least.
+// The bytes with this many changes at most, and with one at least.
 fn with_changes(
     alloc: Global,
     draw: &mut Draw,

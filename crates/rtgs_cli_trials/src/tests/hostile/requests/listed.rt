@@ -79,7 +79,7 @@ fn are_refused(alloc: Global, before: &str, cases: &str) -> Result<(), Fail> {
     Ok(())
 }
 
-// So many of one letter, and no end, are refused by this number.
+// This many of one letter, and no end, are refused by this number.
 fn letters_are_refused(
     alloc: Global,
     before: &str,

@@ -39,7 +39,7 @@ fn row_of_input<K: Keeper>(
 }
 
 // A desk over a keeper of no book does all that it begins with, and then what an input asks for, if there is one. The
-// row that tells of the input, or nothing, and what is kept then.
+// row that is about the input, or nothing, and what is kept then.
 fn served<K: Keeper + Drop>(
     alloc: Global,
     keeper: K,
@@ -61,7 +61,7 @@ fn in_words(alloc: Global, kept: MemoryKeeper, commits: usize) -> Result<String,
     Ok(format!(in alloc; "{commits} commits made {book:?}")?)
 }
 
-// The row that tells of an input to a new desk, and in words the book that the desk has then.
+// The row that is about an input to a new desk, and in words the book that the desk has then.
 fn outcome(alloc: Global, input: Option<&[u8]>) -> Result<(&'static str, String), Fail> {
     let commits = Cell::new(0);
     let keeper = CountingKeeper::new(MemoryKeeper::new(alloc), &commits);
@@ -79,7 +79,7 @@ pub fn before(alloc: Global) -> Result<String, Fail> {
     }
 }
 
-// The word of a row that tells of a command, or of another input after which the book is the one before.
+// The word of a row that is about a command, or about another input after which the book is the one before.
 fn judged(row: &'static str, after: &str, before: &str) -> Result<&'static str, Fail> {
     let word = column(row, 0);
     if word == "done" || after == before {
@@ -88,7 +88,7 @@ fn judged(row: &'static str, after: &str, before: &str) -> Result<&'static str, 
     Err(Fail::new(format_args!("{row}, and {after}")))
 }
 
-/// The word for what a desk tells of an input. A desk that did not tell of a command made no commit, and has the book
+/// The word for what a desk says of an input. A desk that said nothing of a command made no commit, and has the book
 /// that it began with.
 pub fn serve(alloc: Global, before: &str, input: &[u8]) -> Result<&'static str, Fail> {
     match outcome(alloc, Some(input)) {
