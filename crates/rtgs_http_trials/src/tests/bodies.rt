@@ -184,7 +184,7 @@ fn order_files(rt: HostRuntime) -> Result<(), Fail> {
     tells_faults(rt.alloc(), ORDER_FILES)
 }
 
-// ALFA's order with so many lists, each in the one before.
+// ALFA's order with this many lists, each in the one before.
 fn nested(alloc: Global, levels: usize) -> Result<String, AllocError> {
     let (open, close) = ("[".repeat(alloc, levels)?, "]".repeat(alloc, levels)?);
     format!(in alloc; "ALFA POST /orders {open}{close}")

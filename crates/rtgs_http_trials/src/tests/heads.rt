@@ -130,7 +130,7 @@ fn with_behind(alloc: Global, behind: &str) -> Result<String, AllocError> {
     )
 }
 
-// The same, with so many fields beside the key.
+// The same, with this many fields beside the key.
 fn with_fields(alloc: Global, count: usize) -> Result<String, AllocError> {
     let fields = "x: y\r\n".repeat(alloc, count)?;
     with_behind(alloc, fields.as_str())
@@ -144,14 +144,14 @@ fn a_head_has_32_fields_at_most(rt: HostRuntime) -> Result<(), Fail> {
     is_answered(rt.alloc(), more.as_str(), "400 60 BadHead")
 }
 
-// The same, with one more field whose value has so many bytes.
+// The same, with one more field whose value has this many bytes.
 fn with_long_field(alloc: Global, count: usize) -> Result<String, AllocError> {
     let value = "y".repeat(alloc, count)?;
     let field = format!(in alloc; "x: {value}\r\n")?;
     with_behind(alloc, field.as_str())
 }
 
-// The same, with a field that makes it so many bytes long.
+// The same, with a field that makes it this many bytes long.
 fn of_length(alloc: Global, length: usize) -> Result<String, Fail> {
     let shortest = with_long_field(alloc, 0)?.len();
     let count = length.checked_sub(shortest).ok_or("too few bytes")?;

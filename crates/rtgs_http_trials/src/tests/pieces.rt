@@ -11,7 +11,7 @@ const GOOD: &[u8] =
 // How many bytes of the good request are its head.
 const HEAD: usize = GOOD.len() - 44;
 
-// Whether a piece ends the head, of which so many bytes came before.
+// Whether a piece ends the head, of which this many bytes came before.
 fn ends_head(step: HeadStep, before: usize) -> bool {
     match step {
         HeadStep::Region { taken } => HEAD.checked_sub(before) == Some(taken),
@@ -45,7 +45,7 @@ fn a_head_is_the_same_wherever_it_is_cut(rt: HostRuntime) -> Result<(), Fail> {
 // The length of a body that has less than the good one.
 const SHORTER: usize = 40;
 
-// Whether a piece ends such a body, of which so many bytes came before.
+// Whether a piece ends such a body, of which this many bytes came before.
 fn ends_body(step: BodyStep, before: usize) -> bool {
     match step {
         BodyStep::Full { taken } => SHORTER.checked_sub(before) == Some(taken),

@@ -1,4 +1,4 @@
-//! Targets that name no route, and parameters of no form.
+//! Targets that name no route, and malformed parameters.
 use super::faults::tells_faults;
 use std::test::Fail;
 

@@ -133,7 +133,7 @@ impl TestDesk {
         })
     }
 
-    /// With no bank and no day. After so many calls of its keeper one meets this trouble.
+    /// With no bank and no day. After this many calls of its keeper one meets this trouble.
     pub fn new(alloc: Global, calls: usize, trouble: Trouble) -> Result<TestDesk, Fail> {
         TestDesk::over(
             alloc,
@@ -141,7 +141,7 @@ impl TestDesk {
         )
     }
 
-    /// With three banks, on a Monday that is open. After so many calls more one meets this trouble.
+    /// With three banks, on a Monday that is open. After this many calls more one meets this trouble.
     pub fn troubled(alloc: Global, calls: usize, trouble: Trouble) -> Result<TestDesk, Fail> {
         let mut desk = TestDesk::new(alloc, OPENING.saturating_add(calls), trouble)?;
         begin_day(&mut desk.desk, false)?;
@@ -153,7 +153,7 @@ impl TestDesk {
         TestDesk::troubled(alloc, usize::MAX, Trouble::Lost)
     }
 
-    /// As a restart finds it. After so many calls of its keeper one meets this trouble.
+    /// As a restart finds it. After this many calls of its keeper one meets this trouble.
     pub fn troubled_again(self, calls: usize, trouble: Trouble) -> Result<TestDesk, Fail> {
         let TestDesk {
             alloc,

@@ -9,7 +9,7 @@ OPERATOR POST /desk/open {"automatic":true,"date":"2024-03-04"}
 -> 200 OK {"answer":"opened"}
 "#;
 
-// A desk of three banks on a Monday that is automatic. After so many calls of its keeper one meets this trouble.
+// A desk of three banks on a Monday that is automatic. After this many calls of its keeper one meets this trouble.
 fn troubled(alloc: Global, calls: usize, trouble: Trouble) -> Result<TestDesk, Fail> {
     let mut desk = TestDesk::new(alloc, calls, trouble)?;
     add_banks(&mut desk.desk)?;

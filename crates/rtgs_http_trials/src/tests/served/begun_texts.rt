@@ -38,7 +38,7 @@ const READS_OF_A_STATEMENT: usize = 5;
 // How many reads a report takes: three postings and then none, no order and no mark.
 const READS_OF_A_REPORT: usize = 6;
 
-// A desk of that Monday whose keeper meets this trouble after so many reads.
+// A desk of that Monday whose keeper meets this trouble after this many reads.
 fn desk_after(alloc: Global, reads: usize, trouble: Trouble) -> Result<TestDesk, Fail> {
     let mut desk = TestDesk::open(alloc)?;
     desk.follow(POSTINGS)?;
@@ -82,7 +82,7 @@ fn refusal_of(trouble: Trouble) -> Refusal {
     }
 }
 
-// What the same desk tells of the same text afterwards.
+// What the same desk shows of the same text afterwards.
 fn expected_after(alloc: Global, trouble: Trouble, whole: &str) -> Result<String, Fail> {
     match trouble {
         Trouble::Lost | Trouble::Kept => Ok(String::from_str(alloc, "Some(Failed)\n")?),
@@ -115,7 +115,7 @@ posting    000000002 P-2              -                       20.00         -
     )
 }
 
-// What is expected of a text that was refused at this trouble, after so many lines of the statement.
+// What is expected of a text that was refused at this trouble, after this many lines of the statement.
 fn expected_begun(alloc: Global, trouble: Trouble, lines: usize) -> Result<String, Fail> {
     let refusal = refusal_of(trouble);
     let begun = first_lines(alloc, lines)?;
@@ -128,7 +128,7 @@ fn has_statement(alloc: Global, desk: &mut TestDesk, wanted: &str) -> Result<(),
     is_same(found.as_str(), wanted)
 }
 
-// The read of a statement after so many meets this trouble, and so many lines are written before.
+// The read of a statement after this many meets this trouble, and this many lines are written before.
 fn is_begun(alloc: Global, trouble: Trouble, reads: usize, lines: usize) -> Result<(), Fail> {
     let begun = expected_begun(alloc, trouble, lines)?;
     let later = expected_after(alloc, trouble, STATEMENT)?;
@@ -175,7 +175,7 @@ fn has_report(alloc: Global, desk: &mut TestDesk, wanted: &str) -> Result<(), Fa
     is_same(found.as_str(), wanted)
 }
 
-// The read of a report after so many meets this trouble, and nothing is written. Afterwards the desk has failed, or
+// The read of a report after this many meets this trouble, and nothing is written. Afterwards the desk has failed, or
 // tells the whole report.
 fn is_not_begun(alloc: Global, trouble: Trouble, reads: usize, whole: &str) -> Result<(), Fail> {
     let nothing = expected_begun(alloc, trouble, 0)?;
@@ -193,7 +193,7 @@ fn none_is_begun(alloc: Global, trouble: Trouble, whole: &str) -> Result<(), Fai
     Ok(())
 }
 
-// The whole report, which takes so many reads.
+// The whole report, which takes READS_OF_A_REPORT reads.
 fn whole_report(alloc: Global) -> Result<String, Fail> {
     let mut desk = desk_after(alloc, READS_OF_A_REPORT, Trouble::Lost)?;
     let shown = report(alloc, &mut desk)?;

@@ -64,7 +64,7 @@ impl<'a> Connections for Scripted<'a> {
     }
 }
 
-// Serves these connections at a desk. Whether so many are left then, and the replies begin like this.
+// Serves these connections at a desk. Whether this many are left then, and the replies begin like this.
 fn serves(
     alloc: Global,
     desk: &mut TestDesk,

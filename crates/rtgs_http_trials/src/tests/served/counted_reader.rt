@@ -2,7 +2,7 @@
 use std::io;
 use std::io::{ErrorKind, Read};
 
-/// Gives a few bytes at a time, and fails after so many reads.
+/// Gives a few bytes at a time, and fails after a number of reads.
 #[derive(Drop)]
 pub struct CountedReader<'a> {
     left: &'a [u8],

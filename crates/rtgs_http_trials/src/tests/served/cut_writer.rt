@@ -6,7 +6,7 @@ use std::io::{ErrorKind, Write};
 /// How many bytes it takes at most in one write.
 pub const MOST: usize = 16;
 
-/// Takes a few bytes a write, and nothing after so many writes: it then fails, or takes no byte.
+/// Takes a few bytes a write, and nothing after a number of writes: it then fails, or takes no byte.
 #[derive(Drop)]
 pub struct CutWriter {
     pub taken: Vec<u8>,

@@ -1,4 +1,4 @@
-//! Values that are of no form, in each body and each target.
+//! Malformed values, in each body and each target.
 use super::super::test_desk::{follows, follows_after};
 use std::test::Fail;
 

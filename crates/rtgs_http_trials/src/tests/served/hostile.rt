@@ -67,7 +67,7 @@ ALFA GET /orders/A-1
 -> 404 Not Found {"code":9,"name":"UnknownOrder"}
 "#;
 
-// So many bytes of no line have this answer.
+// This many bytes of no line have this answer.
 fn is_answered(
     alloc: Global,
     desk: &mut TestDesk,

@@ -4,7 +4,7 @@ use rtgs_tests_desks::ensure;
 use std::alloc::{AllocError, Global};
 use std::test::Fail;
 
-/// ALFA's request of an order of 44 bytes, with so many spaces behind it.
+/// ALFA's request of an order of 44 bytes, with this many spaces behind it.
 pub fn spaced(alloc: Global, spaces: usize) -> Result<String, AllocError> {
     let spaces = " ".repeat(alloc, spaces)?;
     format!(in alloc;
@@ -31,7 +31,7 @@ fn a_body_has_65536_bytes_at_most(rt: HostRuntime) -> Result<(), Fail> {
 
 const BAD_JSON: &str = r#"400 Bad Request {"code":65,"name":"BadJson"}"#;
 
-// ALFA's order whose body of 40960 bytes begins like this, and then has this part so many times, is answered as no
+// ALFA's order whose body of 40960 bytes begins like this, and then has this part N times, is answered as no
 // JSON.
 fn is_bad(
     alloc: Global,
@@ -58,7 +58,7 @@ fn a_long_body_may_be_no_json(rt: HostRuntime) -> Result<(), Fail> {
     is_bad(rt.alloc(), &mut desk, "{\"due\":0", ",\"due\":0", 5119)
 }
 
-// ALFA's order with so many keys more.
+// ALFA's order with this many keys more.
 fn with_keys(alloc: Global, count: u32) -> Result<String, Fail> {
     let mut asked = String::from_str(alloc, "ALFA POST /orders {\"amount\":100")?;
     for number in 0..count {

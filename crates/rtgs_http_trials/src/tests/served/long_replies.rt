@@ -14,7 +14,7 @@ fn desk_with(alloc: Global, count: u32) -> Result<TestDesk, Fail> {
     Ok(desk)
 }
 
-// The reply with the queue of so many orders.
+// The reply with the queue of this many orders.
 fn queue_of(alloc: Global, count: u32) -> Result<String, Fail> {
     let mut queue = String::from_str(alloc, "200 OK {\"orders\":[")?;
     for number in 1..=count {
@@ -44,7 +44,7 @@ sum-sent                             0.00
 sum-recv                             0.00
 net                                  0.00";
 
-// The reply with the statement of a day on which so many orders are queued.
+// The reply with the statement of a day on which this many orders are queued.
 fn statement_of(alloc: Global, count: u32) -> Result<String, Fail> {
     let mut statement = String::from_str(alloc, "200 OK text/plain\nstatement ALFA 2024-03-04")?;
     for number in 1..=count {

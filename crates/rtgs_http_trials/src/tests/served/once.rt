@@ -77,7 +77,7 @@ fn no_read_follows_what_decides_the_reply(rt: HostRuntime) -> Result<(), Fail> {
     Ok(())
 }
 
-// Fails once, after so many reads of one byte, and goes on.
+// Fails once, after a number of reads of one byte, and goes on.
 #[derive(Drop)]
 struct Stumbling<'a> {
     left: &'a [u8],
@@ -96,7 +96,7 @@ impl Read for Stumbling<'_> {
     }
 }
 
-// A reader that fails after so many reads has no reply.
+// A reader that fails after this many reads has no reply.
 fn is_not_read_again(alloc: Global, desk: &mut TestDesk, reads: usize) -> Result<(), Fail> {
     let mut reader = Stumbling {
         left: GOOD.as_bytes(),
@@ -120,7 +120,7 @@ fn a_read_that_failed_is_not_tried_again(rt: HostRuntime) -> Result<(), Fail> {
     is_not_read_again(rt.alloc(), &mut desk, GOOD.len().saturating_sub(1))
 }
 
-// Takes sixteen bytes a write. After so many writes it fails once, or takes no byte once, and goes on.
+// Takes sixteen bytes a write. After a number of writes it fails once, or takes no byte once, and goes on.
 #[derive(Drop)]
 struct Halting {
     taken: Vec<u8>,
@@ -156,7 +156,7 @@ fn cut_off(served: &Served) -> Option<u16> {
     }
 }
 
-// A writer that fails after so many writes, or takes no byte, has sixteen bytes of each of them and no more.
+// A writer that fails after this many writes, or takes no byte, has sixteen bytes of each of them and no more.
 fn is_not_written_again(alloc: Global, writes: usize, fails: bool) -> Result<(), Fail> {
     let mut desk = TestDesk::open(alloc)?;
     let mut reader = GOOD.as_bytes();

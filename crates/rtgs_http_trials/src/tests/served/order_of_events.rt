@@ -25,7 +25,7 @@ fn serve<K: Keeper>(
     Ok(())
 }
 
-// Whether each byte of the reply to what is asked is written once so many commits have returned, and no more follow.
+// Whether each byte of the reply to what is asked is written once this many commits have returned, and no more follow.
 fn is_written_last<K: Keeper>(
     alloc: Global,
     desk: &mut Desk<K>,

@@ -17,7 +17,7 @@ fn free_port(rt: &HostRuntime) -> Result<u16, Fail> {
     Ok(listener.local_addr()?.port())
 }
 
-// A peer that has sent a good order, and then so many bytes more.
+// A peer that has sent a good order, and then this many bytes more.
 fn peer(rt: &HostRuntime, port: u16, more: usize) -> Result<TcpStream, Fail> {
     let mut stream = TcpStream::connect(rt, (Ipv4Addr::LOCALHOST, port))?;
     stream.write_all(GOOD.as_bytes())?;

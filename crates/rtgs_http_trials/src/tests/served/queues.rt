@@ -60,7 +60,7 @@ fn no_order_passes_another(rt: HostRuntime) -> Result<(), Fail> {
     follows(rt.alloc(), NO_BYPASS)
 }
 
-/// ALFA's request of a file of so many orders.
+/// ALFA's request of a file of this many orders.
 pub fn file_of(alloc: Global, count: u32) -> Result<String, Fail> {
     let mut file = String::from_str(alloc, "ALFA POST /batches\nreference,to,amount")?;
     for number in 1..=count {
@@ -70,7 +70,7 @@ pub fn file_of(alloc: Global, count: u32) -> Result<String, Fail> {
     Ok(file)
 }
 
-/// The reply with the results of so many orders that are queued.
+/// The reply with the results of this many orders that are queued.
 pub fn results_of(alloc: Global, count: u32) -> Result<String, Fail> {
     let mut results = String::from_str(alloc, "200 OK text/csv\nreference,result,number,detail")?;
     for number in 1..=count {

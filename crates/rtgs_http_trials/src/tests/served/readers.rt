@@ -28,7 +28,7 @@ fn is_replied<R: Read>(
     }
 }
 
-// The same of the good request, whose reader gives a byte a read, and fails after so many reads.
+// The same of the good request, whose reader gives a byte a read, and fails after this many reads.
 fn is_replied_after(alloc: Global, desk: &mut TestDesk, reads: usize) -> Option<bool> {
     let mut reader = CountedReader::new(GOOD.as_bytes(), 1, reads);
     is_replied(alloc, desk, &mut reader, QUEUED)
@@ -50,7 +50,7 @@ fn a_reader_that_fails_gives_no_command(rt: HostRuntime) -> Result<(), Fail> {
     Ok(())
 }
 
-// The input has this reply after so many reads, of so many bytes each at most, and none is made after them.
+// The input has this reply after this many reads, of this many bytes each at most, and none is made after them.
 fn is_answered_after(
     alloc: Global,
     input: &str,
@@ -71,7 +71,7 @@ fn is_answered_after(
     Err(Fail::from(said))
 }
 
-// So many reads are enough for the whole of the good request.
+// This many reads are enough for the whole of the good request.
 fn is_enough(alloc: Global, most: usize, reads: usize) -> Result<(), Fail> {
     is_answered_after(alloc, GOOD, most, reads, QUEUED)
 }
@@ -152,7 +152,7 @@ fn no_read_follows_a_head_that_is_too_long(rt: HostRuntime) -> Result<(), Fail> 
     is_answered_after(rt.alloc(), head.as_str(), 1, 8192, TOO_LONG)
 }
 
-// The good request with spaces behind its order, so many that it has this length.
+// The good request with as many spaces behind its order as give it this length.
 fn good_of(alloc: Global, length: usize) -> Result<String, Fail> {
     // the length of the body has four digits in place of two
     let shortest = GOOD.len().saturating_add(2);
@@ -164,7 +164,7 @@ fn good_of(alloc: Global, length: usize) -> Result<String, Fail> {
     Err(Fail::from("another length"))
 }
 
-// The good request of this length is read in so many reads.
+// The good request of this length is read in this many reads.
 fn is_read_in(alloc: Global, length: usize, reads: usize) -> Result<(), Fail> {
     let input = good_of(alloc, length)?;
     is_answered_after(alloc, input.as_str(), usize::MAX, reads, QUEUED)

@@ -7,7 +7,7 @@ use std::rc::Rc;
 use std::test::Fail;
 use std::time::Instant;
 
-// Why a write fails, of which so many go well before at most.
+// Why a write fails, before which this many go well at most.
 fn failure(writer: &mut ReplyWriter, piece: &[u8], most: usize) -> Result<ErrorKind, Fail> {
     for _ in 0..=most {
         if let Err(error) = writer.write(piece) {

@@ -52,7 +52,7 @@ fn an_order_whose_look_up_failed(rt: HostRuntime) -> Result<(), Fail> {
     is_answered_after(rt.alloc(), LOOK_UP, Trouble::Kept, QUEUED)
 }
 
-// Memory is refused once at the order, after so many calls, and not when it comes again.
+// Memory is refused once at the order, after this many calls, and not when it comes again.
 fn waits(alloc: Global, calls: usize) -> Result<(), Fail> {
     let mut desk = TestDesk::troubled(alloc, calls, Trouble::OutOfMemory)?;
     desk.is_answered(ORDER, NO_MEMORY)?;

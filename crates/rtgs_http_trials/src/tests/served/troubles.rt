@@ -79,7 +79,7 @@ fn calls_of(step: &str) -> usize {
     if looks_up { 2 } else { 1 }
 }
 
-// A desk that has made this many of the changes, and at whose next call but so many there is trouble.
+// A desk that has made this many of the changes. After this many calls more one meets this trouble.
 fn desk_before(
     alloc: Global,
     changes: usize,
@@ -97,7 +97,7 @@ fn desk_before(
     Ok(desk)
 }
 
-// The store fails at each call of a change, after so many changes before it.
+// The store fails at each call of a change, after this many changes before it.
 fn fails_at(alloc: Global, changes: usize, step: &str) -> Result<(), Fail> {
     let (asked, _) = step.split_once("\n-> ").ok_or("a step without a reply")?;
     for call in 0..calls_of(step) {
@@ -108,7 +108,7 @@ fn fails_at(alloc: Global, changes: usize, step: &str) -> Result<(), Fail> {
     Ok(())
 }
 
-// Memory is refused at each call of a change, after so many changes before it, and not when it comes again.
+// Memory is refused at each call of a change, after this many changes before it, and not when it comes again.
 fn waits_at(alloc: Global, changes: usize, step: &str) -> Result<(), Fail> {
     let (asked, _) = step.split_once("\n-> ").ok_or("a step without a reply")?;
     for call in 0..calls_of(step) {
@@ -204,7 +204,7 @@ A-1,queued,1,1
 A-2,stopped,,90
 ";
 
-// A desk that has no memory at the call after so many follows this script.
+// A desk that has no memory at the call after this many follows this script.
 fn stops(alloc: Global, calls: usize, script: &str) -> Result<(), Fail> {
     let mut desk = TestDesk::troubled(alloc, calls, Trouble::OutOfMemory)?;
     desk.follow(script)

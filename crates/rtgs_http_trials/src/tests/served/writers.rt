@@ -26,7 +26,7 @@ fn is_answered(served: &Served) -> Option<bool> {
     }
 }
 
-// A writer that takes so many pieces has a beginning of the reply, and the order stands.
+// A writer that takes this many pieces has a beginning of the reply, and the order stands.
 fn is_cut(alloc: Global, writes: usize, fails: bool) -> Result<(), Fail> {
     let mut desk = TestDesk::open(alloc)?;
     let mut writer = CutWriter::new(alloc, writes, fails);
