@@ -1,4 +1,4 @@
-//! What a desk answers, and what its keeper then tells of its book: each record by its name, and the records of each
+//! What a desk answers, and what its keeper then shows of its book: each record by its name, and the records of each
 //! date one after another.
 use super::business::{CODES, DAYS, ORDERS, POSTINGS, day_at};
 use super::seen::{PLACES, place_of};

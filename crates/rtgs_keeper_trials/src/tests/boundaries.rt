@@ -215,7 +215,7 @@ add BANK2 00000000000000000000000000000002 => Ok(Added)
 open 2024-03-04 => Ok(Opened)
 ";
 
-// Adds orders of the first bank that wait: so many in its queue, since nothing covers them, and behind them so many
+// Adds orders of the first bank that wait: this many in its queue, since nothing covers them, and behind them this many
 // that are held.
 fn add_waiting(script: &mut String, queued: u64, held: u64) -> Result<(), Fail> {
     for number in 1..=queued {

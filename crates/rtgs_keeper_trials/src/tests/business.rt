@@ -19,7 +19,7 @@ pub const DAYS: [u32; 48] = [
 
 /// Gives commands in an order that is the same for each seed. Codes, references and amounts are few, so that commands
 /// come twice, are at odds with each other, and lack cover. Orders are paid back and taken back, and limits are set for
-/// the last sender, so that each kind of command comes to free orders that wait.
+/// the last sender, so that each kind of command at some time frees orders that wait.
 #[derive(Drop)]
 pub struct Business {
     alloc: Global,

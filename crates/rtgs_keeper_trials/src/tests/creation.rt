@@ -8,7 +8,7 @@ use rtgs_book::Fault;
 use std::alloc::Global;
 use std::test::Fail;
 
-// Makes a desk in a store that fails in this way after so many calls, for as many calls as are met: how many that are,
+// Makes a desk in a store that fails in this way after N calls, for as many calls as are met: how many that are,
 // and in how many of these runs a book was there after a crash, which is the empty one. There were no tables else, and
 // then the desk was not made.
 fn makings<M: Store, S: Store>(alloc: Global, disk: Failing) -> Result<(usize, usize), Fail> {

@@ -1,5 +1,5 @@
-//! Tables on two disks in memory, their file and their log, as a store. Each disk is behind a fuse that passes so many
-//! calls on and fails each later one.
+//! Tables on two disks in memory, their file and their log, as a store. Each disk is behind a fuse that passes a number
+//! of calls on and fails each later one.
 ghost use Rattle.std.specs.Prelude.{◌≡◌, false};
 
 use super::store::{Booked, Ended, Failing, Job, OverTables, Store, Task};
@@ -18,7 +18,7 @@ pub struct OnDisks {
     disks: Files<Fuse<Memory>>,
 }
 
-// A new disk with the same bytes, which are synced. It passes so many calls on.
+// A new disk with the same bytes, which are synced. It passes this many calls on.
 fn passing(alloc: Global, disk: &Fuse<Memory>, calls: u64) -> Result<Fuse<Memory>, Fail> {
     let mut memory = Memory::new(alloc);
     memory.write_at(0, disk.inner().bytes())?;

@@ -52,7 +52,7 @@ struct Written {
 }
 
 /// Writes the text by a desk over this keeper of a new book, which is given the commands, and then meets this trouble
-/// after so many calls. Once the store has failed, the desk then answers nothing else, and after lack of memory it
+/// after this many calls. Once the store has failed, the desk then answers nothing else, and after lack of memory it
 /// writes once more.
 fn written_by<K: Keeper + Drop>(
     alloc: Global,
@@ -98,7 +98,7 @@ impl Written {
     }
 }
 
-/// What is written by a desk that meets this trouble after so many reads.
+/// What is written by a desk that meets this trouble after this many reads.
 fn written_after(
     alloc: Global,
     bank: Option<&str>,
@@ -128,7 +128,7 @@ fn reads_of(alloc: Global, bank: Option<&str>, trouble: Trouble) -> Result<usize
     Err(Fail::new("each writing met trouble"))
 }
 
-/// Fails unless so many reads go well where first no writing meets a trouble, whichever it is.
+/// Fails unless this many reads go well where first no writing meets a trouble, whichever it is.
 fn reads_are(alloc: Global, bank: Option<&str>, expected: usize) -> Result<(), Fail> {
     for trouble in [Trouble::Lost, Trouble::Kept, Trouble::OutOfMemory] {
         let reads = reads_of(alloc, bank, trouble)?;

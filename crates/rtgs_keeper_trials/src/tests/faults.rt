@@ -24,8 +24,8 @@ fn each_of_the_keeper(alloc: Global, trial: &Trial) -> Result<usize, Fail> {
     }
 }
 
-/// Tries the commands with each failure. It fails unless they met one of the log in so many runs, one of the database
-/// file in so many, and one of the keeper in so many.
+/// Tries the commands with each failure. It fails unless the numbers of runs in which they met one of the log, one of
+/// the database file, and one of the keeper are these.
 pub fn meets(alloc: Global, trial: &Trial, expected: [usize; 3]) -> Result<(), Fail> {
     let keeper = each_of_the_keeper(alloc, trial)?;
     let (log, db) = failures_of_two::<InMemory, OnDisks>(

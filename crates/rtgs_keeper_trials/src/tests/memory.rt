@@ -6,7 +6,7 @@ use std::alloc::Global;
 use std::mem;
 use std::test::Fail;
 
-/// A keeper while no desk is open over it, and the trouble that it meets after so many calls.
+/// A keeper while no desk is open over it, and the trouble that it meets after a number of calls.
 #[derive(Drop)]
 pub struct InMemory {
     kept: MemoryKeeper,

@@ -154,7 +154,7 @@ impl Task for Looks {
     }
 }
 
-/// A desk is opened, and tells of its book.
+/// A desk is opened, and shows its book.
 #[derive(Drop)]
 struct Tells {
     seen: Option<String>,
@@ -205,7 +205,7 @@ struct Known {
     /// What its tables show while they are of the earlier version, and what those show that a desk makes today.
     older: String,
     newest: String,
-    /// What a desk tells of it.
+    /// What a desk says of it.
     seen: String,
 }
 
@@ -300,8 +300,8 @@ fn migrations<S: OverTables>(
     Err(Fail::new("each run failed"))
 }
 
-// Fails unless a failure of the log is met in so many runs, of which so many leave the newest version, and one of the
-// database file in so many.
+// Fails unless a failure of the log is met in this many runs, of which this many leave the newest version, and one of
+// the database file in this many.
 fn is_migrated(
     alloc: Global,
     older: &Older,

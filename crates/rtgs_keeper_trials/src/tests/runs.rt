@@ -20,7 +20,7 @@ pub fn begin<S: Store>(alloc: Global, store: &mut S, trial: &Trial) -> Result<()
     }
 }
 
-/// How far so many of the commands come in a store, which is closed after all of them, or is not.
+/// How far this many of the commands come in a store, which is closed after all of them, or is not.
 pub fn progress_in<S: Store>(
     alloc: Global,
     store: &mut S,
@@ -43,7 +43,8 @@ pub fn found_in<S: Store>(alloc: Global, store: &mut S) -> Result<String, Fail> 
     found_after(alloc, store, "", false, 0, 0)
 }
 
-/// The same once so many commands were given, of which so many are known and come again. They may come in one batch.
+/// The same once this many commands were given, of which this many are known and come again. They may come in one
+/// batch.
 pub fn found_after<S: Store>(
     alloc: Global,
     store: &mut S,
@@ -72,7 +73,7 @@ fn books<S: Store>(alloc: Global, store: &mut S, trial: &Trial) -> Result<Vec<St
     Ok(books)
 }
 
-// Whether this is what was found after so many commands.
+// Whether this is what was found after this many commands.
 fn is_at(books: &[String], place: usize, found: &str) -> bool {
     match books.get(place) {
         Some(book) => book.as_str() == found,
@@ -80,8 +81,8 @@ fn is_at(books: &[String], place: usize, found: &str) -> bool {
     }
 }
 
-// Behind how many of so many commands this is found, where it may be: with all that was answered, and with at most the
-// one command more that was open.
+// Behind how many of this many commands this is found, where it may be: with all that was answered, and with at most
+// the one command more that was open.
 fn place_of(books: &[String], all: usize, progress: Progress, found: &str) -> Option<usize> {
     let (least, most) = match progress {
         Progress::Unopened => (0, 0),

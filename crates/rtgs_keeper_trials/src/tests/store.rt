@@ -44,7 +44,7 @@ pub trait Store: Drop {
     /// A blank one, which does not fail.
     fn blank(alloc: Global) -> Self;
 
-    /// Makes it fail in this way after so many calls, and in no other.
+    /// Makes it fail in this way after this many calls, and in no other.
     fn fail(&mut self, alloc: Global, failing: Failing, calls: usize) -> Result<(), Fail>;
 
     /// Opens it, makes what a new desk needs where that is to be made, and does the job.

@@ -18,7 +18,7 @@ close 2024-03-04 => Ok(Closed { rejected: 0 })";
 pub struct Trial {
     /// Commands before the store fails.
     pub before: &'static str,
-    /// Behind them so many orders of ALFA for Tuesday, and the end of Monday; or neither.
+    /// Behind them this many orders of ALFA for Tuesday, and the end of Monday; or neither.
     pub held: u64,
     /// Commands while it fails. Each has a second answer, for where it comes again. There may be none.
     pub rows: &'static str,
@@ -35,7 +35,7 @@ pub struct Trial {
 pub enum Progress {
     /// The desk could not be opened.
     Unopened,
-    /// So many commands were answered, and at the next the store failed.
+    /// This many commands were answered, and at the next the store failed.
     Failed(usize),
     /// All were answered, and then the store could not be closed.
     Unclosed,
@@ -48,11 +48,11 @@ pub enum Progress {
 pub enum Part {
     /// Nothing is given to a desk.
     Rest,
-    /// The banks are added to a new book, and the commands are given, and behind them so many orders for Tuesday.
+    /// The banks are added to a new book, and the commands are given, and behind them this many orders for Tuesday.
     Begin { held: u64 },
-    /// So many of the commands are given.
+    /// This many of the commands are given.
     Give(usize),
-    /// So many of the commands are given, of which so many come again, and then what is found is looked at.
+    /// This many of the commands are given, of which this many come again, and then what is found is looked at.
     Look { known: usize, most: usize },
 }
 
@@ -85,7 +85,7 @@ impl Work {
         }
     }
 
-    // Gives the desk the first of the commands, of which so many come again. Once the store has failed, the desk
+    // Gives the desk the first of the commands, of which this many come again. Once the store has failed, the desk
     // answers nothing else.
     fn give<K: Keeper>(
         &mut self,
@@ -108,7 +108,7 @@ impl Work {
     }
 }
 
-// Gives the desk so many orders of ALFA for Tuesday, and ends Monday. Where there are none, it does nothing.
+// Gives the desk this many orders of ALFA for Tuesday, and ends Monday. Where there are none, it does nothing.
 fn hold<K: Keeper>(alloc: Global, desk: &mut Desk<K>, held: u64) -> Result<(), Fail> {
     if held == 0 {
         return Ok(());

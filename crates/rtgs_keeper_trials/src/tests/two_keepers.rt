@@ -19,14 +19,14 @@ use std::test::Fail;
 #[derive(Drop)]
 struct Run {
     business: Business,
-    // how many times fifty commands were given, and after how many of these the keeper tells of its book
+    // how many times fifty commands were given, and after how many of these the keeper shows its book
     fifties: u64,
     pause: u64,
     answers: Answers,
 }
 
 impl Run {
-    /// The commands of this seed, where a keeper tells of its book after so many times fifty commands.
+    /// The commands of this seed, where a keeper shows its book after this many times fifty commands.
     fn new(alloc: Global, seed: u64, pause: u64) -> Run {
         Run {
             business: Business::new(alloc, seed),
@@ -36,7 +36,7 @@ impl Run {
         }
     }
 
-    /// Gives a desk over this keeper fifty commands, each of which it judges. Then the keeper tells of its book, if it is
+    /// Gives a desk over this keeper fifty commands, each of which it judges. Then the keeper shows its book, if it is
     /// time.
     fn fifty<K: Booked>(&mut self, alloc: Global, keeper: K) -> Result<K, Fail> {
         let mut desk = desk_over(alloc, keeper)?;
@@ -100,9 +100,9 @@ pub fn end_in_one_book<M: Store, S: Store>(
     }
 }
 
-/// So many hundred commands, of all kinds and with all kinds of answers, which both stores answer alike. Behind each
-/// kind that can free orders something is resolved at least once. Orders with due dates come to stand wherever they may,
-/// and one enters its queue late, since its day was not opened.
+/// This many hundred commands, of all kinds and with all kinds of answers, which both stores answer alike. Behind each
+/// kind that can free orders something is resolved at least once. Orders with due dates come to stand wherever they
+/// may, and one enters its queue late, since its day was not opened.
 fn answer_alike<M: Store, S: Store>(
     alloc: Global,
     memory: &mut M,
@@ -132,7 +132,7 @@ fn answer_alike<M: Store, S: Store>(
     }
 }
 
-// So many hundred commands of this seed, that end in one book. A keeper tells of it after so many times fifty.
+// This many hundred commands of this seed, that end in one book. A keeper shows it after this many times fifty.
 fn commands_of<M: Store, S: Store>(
     alloc: Global,
     seed: u64,
