@@ -97,7 +97,7 @@ fn script_adopted(alloc: Global, script: &str) -> Result<[(i64, usize); 2], Fail
     Ok([standing(&ledger, "ALFA")?, standing(&ledger, "BETA")?])
 }
 
-// The same after two banks are added, of which ALFA has a limit of so many cents.
+// The same after two banks are added, of which ALFA has a limit of this many cents.
 fn adopted(alloc: Global, limit: &str, lines: &str) -> Result<[(i64, usize); 2], Fail> {
     let script = format!(in alloc; "{TWO_BANKS}credit ALFA {limit}\n{lines}")?;
     script_adopted(alloc, script.as_str())

@@ -22,7 +22,7 @@ const LAST: u64 = 64;
 /// At how many rows the batch has to stop at least, with one amount of memory or another.
 const LEAST_MET: usize = 4;
 
-/// By how many small blocks of memory a step has more than the one before it. A few rows are kept in so many.
+/// By how many small blocks of memory a step has more than the one before it. A few rows are kept in this many.
 const BLOCKS: usize = 128;
 
 /// How many steps there are at most.
@@ -75,7 +75,7 @@ fn has_file(
     same(alloc, std::str::from_utf8(text.as_slice())?, wanted)
 }
 
-// Submits the rows with so many small blocks of memory. There are no results where the memory does for no reply.
+// Submits the rows with this many small blocks of memory. There are no results where the memory does for no reply.
 fn with_little<K: Keeper>(
     alloc: Global,
     desk: &mut Desk<K>,
@@ -123,7 +123,7 @@ where
     seen_of(alloc, &mut desk)
 }
 
-// How many rows are answered with so many small blocks of memory. Where the next one is refused, what is answered and
+// How many rows are answered with this many small blocks of memory. Where the next one is refused, what is answered and
 // seen then, and when the rows are sent again, is as it should be.
 fn answered<S: Store>(
     alloc: Global,

@@ -32,7 +32,7 @@ pub trait Call {
 
     fn call(&self, alloc: Global, state: &mut Self::State) -> Self::Answer;
 
-    /// What an answer comes to that is not the one with ample memory.
+    /// What an answer means that is not the one with ample memory.
     fn outcome(&self, answer: &Self::Answer) -> Outcome;
 
     /// Whether an answer is the one with ample memory.
@@ -47,7 +47,7 @@ pub trait Call {
     fn seen(&self, alloc: Global, state: &mut Self::State) -> Result<String, Fail>;
 
     /// What may be seen of the state after a call that stopped with this answer, one text for each part of the work
-    /// that may be done. There are none where all is done or nothing. It fails where the answer tells of no such part.
+    /// that may be done. There are none where all is done or nothing. It fails where the answer shows no such part.
     fn parts(&self, alloc: Global, _answer: &Self::Answer) -> Result<Vec<String>, Fail> {
         Ok(Vec::new(alloc))
     }

@@ -35,7 +35,7 @@ impl Held {
         Some(Held { small, others })
     }
 
-    /// Takes all memory, but for so many small blocks that lie side by side.
+    /// Takes all memory except this many small blocks that lie side by side.
     pub fn all_but(alloc: Global, given: usize) -> Result<Held, Fail> {
         let Held { mut small, others } = Held::all(alloc).ok_or("memory is left")?;
         if given > small.len() {

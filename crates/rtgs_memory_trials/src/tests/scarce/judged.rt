@@ -3,7 +3,7 @@ use super::call::{Call, Outcome};
 use std::alloc::Global;
 use std::test::Fail;
 
-/// What a call comes to with ample memory: what is seen before it, its answer, what is seen after it, and its answer
+/// What a call gives with ample memory: what is seen before it, its answer, what is seen after it, and its answer
 /// when it is made once more.
 #[derive(Drop)]
 pub struct Ample {
@@ -14,7 +14,7 @@ pub struct Ample {
 }
 
 impl Ample {
-    /// What this call comes to.
+    /// What this call gives.
     pub fn of<C: Call>(alloc: Global, call: &C) -> Result<Ample, Fail> {
         let mut state = call.begin(alloc)?;
         Ample::from_state(alloc, call, &mut state)
@@ -198,7 +198,7 @@ fn judge_stopped<C: Call>(
     Ok(())
 }
 
-// What an answer comes to. It fails where it is none of the outcomes that there may be.
+// What an answer means. It fails where it is none of the outcomes that there may be.
 fn outcome_of<C: Call>(
     alloc: Global,
     call: &C,

@@ -13,7 +13,7 @@ const UNDER_A_LIMIT: &str = "DESK_MEMORY_LIMITED";
 /// Set where nothing is to be run but the test itself.
 const ONCE: &str = "DESK_CALLED_ONCE";
 
-/// Runs one test with so many kibibytes of memory.
+/// Runs one test with this many kibibytes of memory.
 const LIMITED: &str = "ulimit -v 65536; exec \"$0\" \"$1\"";
 
 /// By these words of the GNU library a block that is given back joins the free ones beside it at once. Where they are
@@ -41,7 +41,7 @@ struct Counts {
 }
 
 impl Counts {
-    // One more of this outcome. Those that go well are counted anew after each other one.
+    // One more of this outcome. Those that go well are counted from scratch after each other one.
     fn and(self, outcome: Outcome) -> Counts {
         let mut counts = self;
         match outcome {
@@ -88,7 +88,7 @@ impl Counts {
     }
 }
 
-// Calls with so many small blocks of memory and no more, and judges what comes of it.
+// Calls with this many small blocks of memory and no more, and judges what comes of it.
 fn try_with<C: Call>(
     alloc: Global,
     call: &C,
@@ -103,7 +103,7 @@ fn try_with<C: Call>(
     judge(alloc, call, state, &answer, reopens, ample)
 }
 
-// There is memory for no request, and then for more and more, by so many blocks a step: so each is refused that finds
+// There is memory for no request, and then for more and more, by this many blocks a step: so each is refused that finds
 // less than all before it have taken, and each after it that finds no room either. Gives how many steps came to what.
 fn refuse_in_turn<C: Call>(
     rt: &HostRuntime,
@@ -196,7 +196,7 @@ pub fn in_a_process(rt: &HostRuntime, name: &str) -> Result<(), Fail> {
 }
 
 /// Calls once, and then, in a process of its own whose memory is limited, refuses each request for memory that the call
-/// makes in turn, by so many blocks a step, until the call is answered as with ample memory. Some request has to be
+/// makes in turn, by this many blocks a step, until the call is answered as with ample memory. Some request has to be
 /// refused. The name is that of the test.
 pub fn for_each_refusal<C: Call>(
     rt: &HostRuntime,

@@ -81,7 +81,7 @@ where
     }
 }
 
-// What is seen of the desk after so many of the rows.
+// What is seen of the desk after this many of the rows.
 fn seen_after<S: Store>(alloc: Global, sends: &Sends<'_, S>, count: usize) -> Result<String, Fail>
 where
     S::Kept: Keeper + Drop,

@@ -62,7 +62,7 @@ impl<S: Store> Serves<'_, S> {
     }
 }
 
-// The reply of a batch of the three orders that has so many answered, and stops for lack of memory at the next one.
+// The reply of a batch of the three orders that has this many answered, and stops for lack of memory at the next one.
 fn stopped_reply(alloc: Global, count: usize) -> Result<String, Fail> {
     let mut results = String::from_str(alloc, HEADER)?;
     let lines = RESULTS;
@@ -88,7 +88,7 @@ fn answered_in(alloc: Global, written: &[u8]) -> Result<usize, Fail> {
     Err(Fail::from("no reply of a batch that stopped"))
 }
 
-// What is seen of the desk after so many rows of a batch.
+// What is seen of the desk after this many rows of a batch.
 fn seen_after<S: Store>(alloc: Global, serves: &Serves<'_, S>, count: usize) -> Result<String, Fail>
 where
     S::Kept: Keeper + Drop,

@@ -74,7 +74,7 @@ pub fn desk_after<K: Keeper + Drop>(
     Ok(desk)
 }
 
-/// What a desk tells of its participants, of Monday and of Tuesday.
+/// What a desk says of its participants, of Monday and of Tuesday.
 pub fn seen_of<K: Keeper>(alloc: Global, desk: &mut Desk<K>) -> Result<String, Fail> {
     let mut seen = rtgs_tests_desks::seen_of(alloc, desk, MONDAY)?;
     let tuesday = rtgs_tests_desks::seen_of(alloc, desk, TUESDAY)?;
