@@ -204,7 +204,7 @@ fn rows_may_have_a_due_date(rt: HostRuntime) -> Result<(), Fail> {
     files_follow(&rt, WITH_DUE_DATES)
 }
 
-// A file of one row, whose receiver is so many letters.
+// A file of one row, whose receiver is this many letters.
 fn long_field(alloc: Global, length: usize) -> Result<String, Fail> {
     let letters = "B".repeat(alloc, length)?;
     let letters = letters.as_str();
@@ -218,7 +218,7 @@ fn a_long_field_is_a_bad_row(rt: HostRuntime) -> Result<(), Fail> {
     ensure(fault == Some(BatchFault::BadRow { row: 1 }))
 }
 
-// Reads a file of so many rows, of which one is bad.
+// Reads a file of N rows, of which one is bad.
 #[derive(Clone, Copy)]
 struct Counting;
 
@@ -244,7 +244,7 @@ fn file_asked(alloc: Global, asked: &str) -> Result<Vec<u8>, Fail> {
     file(alloc, rows, bad)
 }
 
-// A file of so many rows, of which this one is bad.
+// A file of this many rows, of which this one is bad.
 fn file(alloc: Global, rows: u64, bad: u64) -> Result<Vec<u8>, Fail> {
     let mut text = Vec::new(alloc);
     text.extend_from_slice(b"reference,to,amount\n")?;

@@ -118,7 +118,7 @@ fn limited(participant: &str, cents: &str) -> Result<Command, Fail> {
     })
 }
 
-/// Posts so many cents to a participant, or takes them where they are below 0.
+/// Posts this many cents to a participant, or takes them where they are below 0.
 fn posted(participant: &str, name: &str, cents: &str) -> Result<Command, Fail> {
     Ok(Command::Post {
         code: code(participant)?,

@@ -40,7 +40,7 @@ pub fn reference(text: &str) -> Result<Reference, Fail> {
     Ok(Reference::read(text.as_bytes())?)
 }
 
-/// The amount of so many cents.
+/// The amount of this many cents.
 pub fn amount(cents: u64) -> Result<Amount, Fail> {
     Ok(Amount::from_cents(cents).ok_or("an amount")?)
 }
@@ -115,12 +115,12 @@ pub fn kept<K: Keeper + Drop>(alloc: Global, keeper: K, rows: &[RowChange]) -> R
     Ok(keeper)
 }
 
-/// The tables of a keeper, opened anew.
+/// The tables of a keeper, opened again.
 pub fn opened<S: Alter + Drop>(keeper: SqlKeeper<S>) -> SqlKeeper<S> {
     SqlKeeper::open(keeper.into_connection())
 }
 
-/// The tables of a keeper, opened anew once this was done to them.
+/// The tables of a keeper, opened again once this was done to them.
 pub fn meddled<S: Alter + Drop>(keeper: SqlKeeper<S>, sql: &str) -> Result<SqlKeeper<S>, Fail> {
     let mut conn = keeper.into_connection();
     conn.execute_batch(sql)?;
@@ -150,7 +150,7 @@ pub fn queued(number: u64, place: u64) -> Reply {
     alone(Answer::Queued { number, place })
 }
 
-/// So many orders of this value in cents settled under this mark.
+/// This many orders of this value in cents settled under this mark.
 pub fn resolved(mark: u64, count: u64, cents: i64) -> Reply {
     alone(Answer::Resolved {
         mark,

@@ -3,7 +3,7 @@ use std::alloc::Global;
 use std::io;
 use std::io::{ErrorKind, Write};
 
-/// Takes at most five bytes a write, and nothing after so many writes: it then fails, or takes no byte.
+/// Takes at most five bytes a write, and nothing after a number of writes: it then fails, or takes no byte.
 #[derive(Drop)]
 pub struct CutWriter {
     pub taken: Vec<u8>,

@@ -71,7 +71,7 @@ fn a_repeat_tells_each_state(rt: HostRuntime) -> Result<(), Fail> {
     is_same(text.as_str(), STOPPED)
 }
 
-// Whether a writer that stops after so many writes is said to have the whole text exactly if it has, and has what it
+// Whether a writer that stops after this many writes is said to have the whole text exactly if it has, and has what it
 // took of it.
 fn has_a_beginning(
     alloc: Global,

@@ -167,7 +167,7 @@ fn submitted<K: Keeper + Drop>(
     Ok((reply, desk.into_keeper()))
 }
 
-/// What is answered to commands over tables that are opened anew for each of them.
+/// What is answered to commands over tables that are opened again for each of them.
 fn replies<S: Alter + Drop>(
     alloc: Global,
     keeper: SqlKeeper<S>,

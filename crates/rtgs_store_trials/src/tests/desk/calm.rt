@@ -8,7 +8,7 @@ use rtgs_tests_desks::{MemoryKeeper, ensure};
 use std::alloc::Global;
 use std::test::Fail;
 
-// ALFA has 100 cents, and its order of so many waits on an open day, which is automatic or not.
+// ALFA has 100 cents, and its order of this many waits on an open day, which is automatic or not.
 fn rows(cents: u64, automatic: bool) -> Result<[RowChange; 6], Fail> {
     Ok([
         RowChange::AddParticipant(participant("ALFA", 1)?),

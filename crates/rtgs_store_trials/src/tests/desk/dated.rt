@@ -21,7 +21,7 @@ order ALFA O-2 BETA 60 => Settled { number: 2, mark: 2 }
 order ALFA O-3 BETA 25 => Queued { number: 3, place: 1 }
 ";
 
-// What the desk tells of the second day's records, after the one of a number.
+// What the desk says of the second day's records, after the one of a number.
 const RECORDS: &str = "
 next-posting 2024-03-04 0 => 2 ALFA P-2 10 2024-03-04
 next-posting 2024-03-04 2 => none

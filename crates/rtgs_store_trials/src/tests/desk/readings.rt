@@ -1,4 +1,4 @@
-//! What a desk tells of its book.
+//! What a desk says of its book.
 use super::super::scripts::desks::desk_follows;
 use super::super::setting::{MONDAY, code, date, desk_over, kept, order, participant};
 use rtgs_book::{AccountReading, Day, Order, OrderState, Phase, Refusal, RowChange};
@@ -112,7 +112,7 @@ fn a_queue_is_answered_in_its_order(rt: HostRuntime) -> Result<(), Fail> {
     ensure(answers == [Ok(true), Err(Refusal::UnknownParticipant)])
 }
 
-// What the desk tells of the order with this reference, from one sender after another.
+// What the desk says of the order with this reference, from one sender after another.
 fn orders_of<K: Keeper>(
     desk: &mut Desk<K>,
     senders: &[Code; 3],

@@ -17,7 +17,7 @@ fn number(text: &str) -> Result<u64, Fail> {
     }
 }
 
-// What the keeper tells of a name, or of what comes next on a day after a number.
+// What the keeper says of a name, or of what comes next on a day after a number.
 fn answer<K: Keeper>(alloc: Global, keeper: &mut K, question: &[&str]) -> Result<String, Fail> {
     match question {
         ["order", sender, name] => {

@@ -124,7 +124,7 @@ fn nothing_comes_after_the_last_number(rt: HostRuntime) -> Result<(), Fail> {
     )
 }
 
-/// Adds so many marks of Friday, and then one of Tuesday.
+/// Adds this many marks of Friday, and then one of Tuesday.
 fn marks_of_friday(alloc: Global, earlier: u64) -> Result<String, Fail> {
     let mut sql = format!(in alloc;
         "INSERT INTO mark (number, date, many, value) VALUES ({earlier} + 1, '2024-03-05', 1, 5)"
@@ -135,7 +135,7 @@ fn marks_of_friday(alloc: Global, earlier: u64) -> Result<String, Fail> {
     Ok(sql)
 }
 
-// Behind so many marks of Friday comes one of Tuesday, and nothing on the Monday between.
+// Behind this many marks of Friday comes one of Tuesday, and nothing on the Monday between.
 fn passes_over_friday(alloc: Global, earlier: u64) -> Result<(), Fail> {
     let sql = marks_of_friday(alloc, earlier)?;
     let last = earlier.saturating_add(1);

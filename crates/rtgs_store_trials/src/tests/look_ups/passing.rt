@@ -143,7 +143,7 @@ fn gives_the_last<K: Keeper>(
     Ok(())
 }
 
-/// A keeper of nothing gives the one record of Tuesday behind so many of Friday.
+/// A keeper of nothing gives the one record of Tuesday behind this many of Friday.
 fn passes_over<K: Keeper>(
     rt: &(impl Abort + AllocGlobal),
     keeper: &mut K,
@@ -167,7 +167,7 @@ fn up_to(alloc: Global, number: u64) -> Result<Vec<u64>, Fail> {
     Ok(numbers)
 }
 
-/// Keepers in memory and over tables give the one record of Tuesday behind so many of Friday.
+/// Keepers in memory and over tables give the one record of Tuesday behind this many of Friday.
 fn both_pass_over(rt: &(impl Abort + AllocGlobal), earlier: u64) -> Result<(), Fail> {
     let numbers = up_to(rt.alloc(), earlier)?;
     let last = earlier.saturating_add(1);
