@@ -118,7 +118,7 @@ fn book_of(alloc: Global, banks: u32, orders: u32) -> Result<Book, Fail> {
     })
 }
 
-// A book of 100 banks with so many orders is sound.
+// A book of 100 banks with this many orders is sound.
 fn is_sound(alloc: Global, orders: u32) -> Result<(), Fail> {
     let book = book_of(alloc, 100, orders)?;
     check(&book)?;

@@ -86,7 +86,7 @@ fn small_queue(alloc: Global, sender: usize, number: usize) -> Result<Vec<Paymen
     Ok(queue)
 }
 
-/// So many payments of one cent to a receiver.
+/// This many payments of one cent to a receiver.
 fn cents_to(alloc: Global, receiver: usize, count: usize) -> Result<Vec<Payment>, AllocError> {
     let mut queue = Vec::new(alloc);
     for _ in 0..count {

@@ -9,7 +9,7 @@ use std::alloc::Global;
 use std::process::Abort;
 use std::test::Fail;
 
-/// A book of so many participants, with the balance, floor and queue of each.
+/// A book of N participants, with the balance, floor and queue of each.
 fn book(alloc: Global, rows: &[(i64, i64, &[(usize, u64)])]) -> Result<ResolverInput, Fail> {
     let mut book = ResolverInput::new(alloc);
     for (balance, floor, queue) in rows {

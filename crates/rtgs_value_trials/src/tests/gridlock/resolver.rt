@@ -68,7 +68,7 @@ impl Resolver {
         }
     }
 
-    /// Moves so many cents to a bank, or from it where they are below 0.
+    /// Moves this many cents to a bank, or from it where they are below 0.
     fn moves(&mut self, bank: &str, cents: i64) -> Result<(), Fail> {
         let index = bank_index(bank)?;
         let position = self

@@ -92,7 +92,7 @@ fn dates_never_fall_along_the_orders_without_a_due_date(rt: HostRuntime) -> Resu
     are_judged(rt.alloc(), BETWEEN, 7)
 }
 
-/// So many orders of one sender are queued, and then so many held. The other sender has as many as it may.
+/// A number of orders of one sender are queued, and then a number held. The other sender has as many as it may.
 const FULL: &str = "
 0 500 => sound
 1 499 => sound
@@ -118,7 +118,7 @@ fn add(records: &mut String, number: u32, sender: &str, to: &str, held: bool) ->
     Ok(())
 }
 
-// A book in which so many orders of ALFA are queued and so many held, and BETA has 500 that are held.
+// A book in which this many orders of ALFA are queued and this many held, and BETA has 500 that are held.
 fn waiting(alloc: Global, queued: u32, held: u32) -> Result<String, Fail> {
     let mut records = String::from_str(alloc, BANKS)?;
     let all = queued.saturating_add(held);

@@ -43,7 +43,7 @@ fn is_judged(alloc: Global, line: &str) -> Result<(), Fail> {
     }
 }
 
-/// Each of so many books is judged as its line tells. The records of a line stand between semicolons, behind those of
+/// Each of this many books is judged as its line tells. The records of a line stand between semicolons, behind those of
 /// the two banks.
 pub fn are_judged(alloc: Global, cases: &str, count: usize) -> Result<(), Fail> {
     let mut judged = 0usize;

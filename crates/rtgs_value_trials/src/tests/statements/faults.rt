@@ -8,7 +8,7 @@ use std::alloc::Global;
 use std::io::{Error, ErrorKind, Result as IoResult, Write};
 use std::test::Fail;
 
-/// Takes so many bytes at a call, and fails after so many calls.
+/// Takes a number of bytes at a call, and fails after a number of calls.
 #[derive(Drop)]
 struct Narrow {
     taken: Vec<u8>,
@@ -122,7 +122,8 @@ fn has_written(out: &Narrow, ended: Ended, wanted: Ended, text: &[u8]) -> Result
     }
 }
 
-// A statement for a writer that takes so many bytes at a call, and fails after so many calls, ends so with this text.
+// A statement for a writer that takes this many bytes at a call, and fails after this many calls, ends so with this
+// text.
 fn statement_for(
     alloc: Global,
     width: usize,

@@ -80,7 +80,7 @@ fn report(alloc: Global, mut shelf: Shelf) -> Result<Tried, Fail> {
     })
 }
 
-// A shelf whose reads end in this trouble after so many.
+// A shelf whose reads end in this trouble after this many.
 fn failing(alloc: Global, reads: usize, trouble: Trouble) -> Result<Shelf, Fail> {
     Ok(Shelf::failing(book_of(alloc, RECORDS)?, reads, trouble))
 }
@@ -106,11 +106,11 @@ posting    000000002 P-2              -                       -0.50         -
     )
 }
 
-// The lines of ALFA's statement that are written before so many reads went well: the title, a row for each posting,
-// and of the orders a row for the first, which alone tells of it.
+// The lines of ALFA's statement that are written before N reads went well: the title, a row for each posting,
+// and of the orders a row for the first, which alone is about it.
 const LINES_AFTER: [usize; 7] = [1, 2, 3, 4, 4, 5, 5];
 
-// A statement whose read after so many is refused is begun, so many lines of it.
+// A statement whose read after this many is refused is begun, as many lines of it as LINES_AFTER has.
 fn begins(alloc: Global, whole: &[u8], reads: usize, trouble: Trouble) -> Result<(), Fail> {
     let tried = statement(alloc, failing(alloc, reads, trouble)?)?;
     let lines = LINES_AFTER.get(reads).copied().unwrap_or(0);
@@ -121,7 +121,7 @@ fn begins(alloc: Global, whole: &[u8], reads: usize, trouble: Trouble) -> Result
     )
 }
 
-// A statement that takes so many reads is whole where they go well.
+// A statement that takes this many reads is whole where they go well.
 fn is_whole_statement(
     alloc: Global,
     whole: &[u8],
@@ -145,13 +145,13 @@ fn each_read_of_a_statement_is_refused_in_turn(rt: HostRuntime) -> Result<(), Fa
     Ok(())
 }
 
-// Of a report whose read after so many is refused nothing is written.
+// Of a report whose read after this many is refused nothing is written.
 fn is_no_report(alloc: Global, reads: usize, trouble: Trouble) -> Result<(), Fail> {
     let tried = report(alloc, failing(alloc, reads, trouble)?)?;
     ensure(tried.is_by(trouble) && tried.out.is_empty())
 }
 
-// A report that takes so many reads is whole where they go well.
+// A report that takes this many reads is whole where they go well.
 fn is_whole_report(
     alloc: Global,
     whole: &[u8],

@@ -16,7 +16,7 @@ pub enum Trouble {
     OutOfMemory,
 }
 
-/// Gives the records of a book one after another, by its lists. After so many reads each one meets trouble.
+/// Gives the records of a book one after another, by its lists. After a number of reads each one meets trouble.
 #[derive(Debug, Drop)]
 pub struct Shelf {
     book: Book,
@@ -34,7 +34,7 @@ impl Shelf {
         Shelf::failing(book, usize::MAX, Trouble::StoreFault)
     }
 
-    /// So many reads go well, and the next one meets trouble.
+    /// This many reads go well, and the next one meets trouble.
     pub fn failing(book: Book, reads: usize, trouble: Trouble) -> Shelf
         ensures book { result.book ≡ book }
         ensures failed { result.failed ≡ false }
