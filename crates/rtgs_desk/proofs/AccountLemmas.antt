@@ -1,4 +1,4 @@
--- What the desk tells of one account, and of all in order.
+-- What the desk says of one account, and of all in order.
 use Rattle.std.proofs.Common.{◌≡◌, ◌∙◌, ◌≤◌, ◌+◌, ◌++◌, ◌∷◌, [], ℕ, Bool, true, false, cond, List, length, map, take}
 use Rattle.std.proofs.Common.{find, nat_cmp, Less, Option, Some, None, Ok, option_map, refl, sym, ap, subst, inl, inr}
 use Rattle.std.proofs.Common.{arith}
@@ -165,7 +165,7 @@ answered_to_the_last book done i before none =
       | inr over ↦ over.0
     ])
 
--- no book has more than so many
+-- no book has more than this many
 pub answered_up_to_the_most : (book : Book) (done : List AccountReading) (i : ℕ) → IsSound book
     → done ≡ take i (readings_of book) → MOST_PARTICIPANTS ≤ i → done ≡ readings_of book
 answered_up_to_the_most book done i sound before most =

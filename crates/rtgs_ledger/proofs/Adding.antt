@@ -1,4 +1,4 @@
--- What adding a participant comes to, test by test, and its change.
+-- What adding a participant gives, test by test, and its change.
 use Rattle.std.proofs.Common.{◌≡◌, ℕ, pos, true, false, ◌&&◌, if◌then◌else◌, nat_le, List, [], ◌∷◌, length, find, Ok}
 use Rattle.std.proofs.Common.{Err, Some, None, refl, sym, ◌∙◌}
 use Rattle.std.specs.List.{list_any}

@@ -1,4 +1,4 @@
--- What closing a day comes to, test by test, and its change.
+-- What closing a day gives, test by test, and its change.
 use Rattle.std.proofs.Common.{◌≡◌, ℕ, pos, Bool, true, false, ◌&&◌, cond, if◌then◌else◌, List, [], ◌∷◌, ◌++◌, map}
 use Rattle.std.proofs.Common.{filter, length, find, Ok, Err, Some, None, refl, sym, ap, subst, ◌∙◌, inl, true≢false}
 use Rattle.std.specs.Prelude.{int_lt}

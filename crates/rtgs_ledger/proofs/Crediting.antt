@@ -1,4 +1,4 @@
--- What setting a credit limit comes to, test by test, and its change.
+-- What setting a credit limit gives, test by test, and its change.
 use Rattle.std.proofs.Common.{◌≡◌, ℕ, pos, neg_ℤ, true, false, not, ◌&&◌, if◌then◌else◌, List, [], ◌∷◌}
 use Rattle.std.proofs.Common.{Ok, Err, Some, None, refl}
 use Rattle.std.specs.Prelude.{int_lt}

@@ -1,4 +1,4 @@
--- What cutting off a day comes to, test by test, and its change.
+-- What cutting off a day gives, test by test, and its change.
 use Rattle.std.proofs.Common.{◌≡◌, ◌==◌, ℕ, Bool, true, false, not, ◌&&◌, true≢false, sym, if◌then◌else◌, List, [], ◌∷◌}
 use Rattle.std.proofs.Common.{Ok, Err, Some, None, refl}
 use Rattle.std.specs.Ordering.{int_eq}

@@ -1,4 +1,4 @@
--- What opening a day comes to, test by test, and its change.
+-- What opening a day gives, test by test, and its change.
 use Rattle.std.proofs.Common.{◌≡◌, ℕ, Bool, true, false, ◌&&◌, if◌then◌else◌, List, [], ◌∷◌, Ok, Err, Some, None, refl}
 use Rattle.std.specs.Ordering.{int_eq}
 use Rattle.rtgs_money.specs.Date.{is_weekend}

@@ -1,4 +1,4 @@
--- What an order comes to, test by test, and its change.
+-- What an order gives, test by test, and its change.
 use Rattle.std.proofs.Common.{◌≡◌, ℕ, ◌+◌, ◌≤◌, ℤ, pos, ◌+ℤ◌, ◌-ℤ◌, Bool, true, false, not, ◌&&◌, if◌then◌else◌, nat_le}
 use Rattle.std.proofs.Common.{List, [], ◌∷◌, ◌++◌, map, filter, length, find, Option, unwrap_or, is_some, is_none}
 use Rattle.std.proofs.Common.{IsTrue}

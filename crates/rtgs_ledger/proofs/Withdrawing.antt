@@ -1,4 +1,4 @@
--- What withdrawing an order comes to, test by test, and its change.
+-- What withdrawing an order gives, test by test, and its change.
 use Rattle.std.proofs.Common.{◌≡◌, ℕ, Bool, true, false, if◌then◌else◌, List, [], ◌∷◌, find, Ok, Err, Some}
 use Rattle.std.proofs.Common.{None, ◌⊎◌, inl, inr, refl, sym, ap, ◌∙◌, arith}
 use Rattle.std.proofs.lemmas.Bool.Decides.{nat_tests}

@@ -1,4 +1,4 @@
--- What a command comes to in a ledger that has the core of a book.
+-- What a command gives in a ledger that has the core of a book.
 use Rattle.std.specs.Prelude.{Bool, true, false, ◌≡◌, ◌≢◌, ◌⊎◌, List, [], Ok, Err}
 use Rattle.std.specs.List.{AllByRecursion}
 use Rattle.rtgs_book.specs.declared.book.Book.{Book}

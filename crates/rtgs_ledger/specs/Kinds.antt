@@ -60,7 +60,7 @@ IsOfItsKind command given = (answers_its_kind command given.own ≡ true)
 abbrev pub CanAnswer : Command → WholeAnswer → List RowChange → Type 0
 CanAnswer command given rows = IsOfItsKind command given × IsQuiet given.own rows
 
--- a refusal that tells of a store, and of no command
+-- a refusal that is about a store, and about no command
 abbrev pub is_of_the_store : Refusal → Bool
 is_of_the_store StoreFault = true
 is_of_the_store Failed = true

@@ -22,7 +22,7 @@ KeepsQueues (SetState number state) = ⊥
 KeepsQueues (EnterQueue number date) = ⊥
 KeepsQueues row = ⊤
 
--- the row leaves the day, and the accounts but for their balances and credit limits
+-- the row leaves the day, and the accounts except their balances and credit limits
 abbrev pub KeepsAccounts : RowChange → Type 0
 KeepsAccounts (AddParticipant participant) = ⊥
 KeepsAccounts (SetDay day) = ⊥

@@ -45,8 +45,8 @@ abbrev pub open_order : List ℕ → List NewOrder → List Reply → Option Ref
 open_order sender rows replies stopped =
     open_command (orders_of sender (take (length (with_stop replies stopped)) rows)) (with_stop replies stopped)
 
--- After so many replies a batch of so many rows is at its end, or has stopped at the next row, where the desk judged
--- nothing.
+-- After this many replies a batch of this many rows is at its end, or has stopped at the next row, where the desk
+-- judged nothing.
 abbrev pub StopsAfter : ℕ → ℕ → Option Refusal → Type 0
 StopsAfter replies rows None = replies ≡ rows
 StopsAfter replies rows (Some refusal) = (replies < rows) × (is_judged (Err refusal) ≡ false)

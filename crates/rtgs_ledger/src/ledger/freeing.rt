@@ -129,7 +129,7 @@ impl Ledger {
         !self.is_short(&order.sender, account.balance, paid)
     }
 
-    // Whether the account with this balance would be below its floor once it had paid so many cents, even if all that
+    // Whether the account with this balance would be below its floor once it had paid this many cents, even if all that
     // is queued to it came in.
     fn is_short(&self, code: &Code, money: Cents, cents: i128) -> bool
         requires low { pos 0 ≤ℤ cents }

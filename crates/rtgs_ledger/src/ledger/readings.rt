@@ -57,7 +57,7 @@ impl Ledger {
         self.beginning(sender, self.records.orders.queue(sender).len())
     }
 
-    /// So many of the queued orders of the sender, the first of them; all, where there are no more.
+    /// This many of the queued orders of the sender, the first of them; all, where there are no more.
     pub(super) fn beginning(&self, sender: &Code, most: usize) -> Result<Vec<Order>, AllocError>
         ensures { IfOk result (λ orders. orders.items ≡ take most (queued_among self.now.core.waiting sender.now)) }
     {

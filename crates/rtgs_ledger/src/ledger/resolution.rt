@@ -139,7 +139,7 @@ impl Settlement {
         Ok(rows)
     }
 
-    /// What it comes to.
+    /// What it gives.
     pub(super) fn resolution(&self) -> Resolution
         ensures { result ≡ record {
           mark = self.now.mark.number;
