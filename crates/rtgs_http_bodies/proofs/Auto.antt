@@ -18,7 +18,7 @@ use Rattle.rtgs_http_bodies.specs.Answers.{with_auto}
 
 -- ---- it comes right after the word of the answer
 
--- the value of the command's own answer, and how what was resolved comes to it
+-- the value of the command's own answer, and how what was resolved is added to it
 abbrev pub Joins : Answer → Resolution → Type 0
 Joins own auto = (members : Members) × (own_data None own ≡ object members)
     × (object (put (codes "auto") (resolution_data auto) members) ≡ own_data (Some auto) own)

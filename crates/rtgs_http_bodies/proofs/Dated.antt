@@ -13,7 +13,7 @@ due_on order due = record order { due = due }
 pub is_undated : (order : Order) → order.due ≡ None → order_data (undated order) ≡ order_data order
 is_undated order none = ap (λ due. order_data (due_on order due)) (sym none)
 
--- the value of the order without its due date, and how the date comes to it
+-- the value of the order without its due date, and how the date is added to it
 abbrev pub GainsDue : Order → Order → ℕ → Type 0
 GainsDue plain order due = (members : Members) × (order_data plain ≡ object members)
     × (object (put (codes "due") (string (date_text due)) members) ≡ order_data order)

@@ -13,7 +13,7 @@ use Rattle.rtgs_http_bodies.specs.replies.Bodies.{whole}
 use Rattle.rtgs_http_bodies.specs.replies.Kinds.{kind_status, kind_data}
 use Rattle.rtgs_http_bodies.specs.replies.Messages.{Message, json_message}
 
--- so many participants are below zero, the first in the order of codes this one
+-- this many participants are below zero, the first in the order of codes this one
 abbrev pub overdrawn_data : List ℕ → ℕ → Data
 overdrawn_data first count = object (member (codes "code") (whole (entry_of kind.Overdrawn).number)
     (member (codes "count") (whole count) (member (codes "first") (string first)

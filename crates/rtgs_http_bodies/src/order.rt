@@ -59,7 +59,7 @@ fn with_due(alloc: Global, value: Value, due: BusinessDate) -> Result<Value, All
     }
 }
 
-// The JSON value of an order but for its due date.
+// The JSON value of an order without its due date.
 fn undated_value(alloc: Global, order: &Order) -> Result<Value, AllocError>
     ensures { IfOk result (λ value. view value ≡ order_data (undated order.now)) }
 {
@@ -72,7 +72,7 @@ fn undated_value(alloc: Global, order: &Order) -> Result<Value, AllocError>
     }
 }
 
-// The JSON value of an order that has settled under this mark, but for its due date.
+// The JSON value of an order that has settled under this mark, without its due date.
 fn settled_value(alloc: Global, order: &Order, mark: u64) -> Result<Value, AllocError>
     ensures { IfOk result (λ value. view value ≡ settled_order (undated order.now) mark) }
 {
@@ -87,7 +87,7 @@ fn settled_value(alloc: Global, order: &Order, mark: u64) -> Result<Value, Alloc
     Ok(Value::Object(members))
 }
 
-// The JSON value of an order that stands so and has not settled, but for its due date.
+// The JSON value of an order that stands so and has not settled, without its due date.
 fn unsettled_value(alloc: Global, order: &Order, standing: Standing) -> Result<Value, AllocError>
     ensures { IfOk result (λ value. view value ≡ unsettled_order (undated order.now) standing) }
 {

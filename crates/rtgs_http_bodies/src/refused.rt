@@ -57,7 +57,7 @@ pub fn batch_fault_reply(alloc: Global, fault: BatchFault) -> Result<Reply, Allo
     }
 }
 
-// The status of the table. No reply tells of a kind that has none there.
+// The status of the table. No reply is about a kind that has none there.
 fn status_of(kind: RefusalKind) -> StatusCode
     ensures { result ≡ kind_status kind }
 {

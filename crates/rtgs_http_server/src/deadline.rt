@@ -14,8 +14,8 @@ pub(crate) struct Deadline {
 }
 
 impl Deadline {
-    /// The moment so many seconds from now. The error is the system's, which did not tell the time, or `TimedOut` past
-    /// the end of its clock.
+    /// The moment this many seconds from now. The error is the system's, which did not tell the time, or `TimedOut`
+    /// past the end of its clock.
     pub(crate) fn after(rt: &HostRuntime, seconds: u64) -> io::Result<Deadline> {
         match Instant::now(rt)?.checked_add(Duration::from_secs(seconds)) {
             Some(at) => Ok(Deadline { rt: *rt, at }),

@@ -25,7 +25,7 @@ pub struct Port {
 }
 
 impl Port {
-    /// Listens on the port with this number, for so many connections. The error is the system's, as where another
+    /// Listens on the port with this number, for this many connections. The error is the system's, as where another
     /// program has the port.
     pub fn listen(rt: &HostRuntime, number: u16, count: u32) -> io::Result<Port>
         ensures { IfOk result (λ port. port.left ≡ count) }

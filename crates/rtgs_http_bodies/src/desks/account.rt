@@ -41,7 +41,7 @@ pub(in crate::desks) fn queued_in_64_bits(reading: &AccountReading) -> i64
     in_64_bits(reading.queued_value.cents())
 }
 
-// So many cents, where 64 bits hold them, and else the most that they hold.
+// This many cents, where 64 bits hold them, and else the most that they hold.
 fn in_64_bits(cents: i128) -> i64
     ensures { FitsSigned w64 cents → result ≡ cents }
 {

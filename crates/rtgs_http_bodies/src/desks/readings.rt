@@ -1,4 +1,4 @@
-//! The whole text of what a desk tells of its book, made in memory. (A statement that is printed is written row by row
+//! The whole text of what a desk says of its book, made in memory. (A statement that is printed is written row by row
 //! instead, by `write_statement`.)
 ghost use Rattle.std.specs.Prelude.{◌≡◌, ◌≢◌, ◌⊎◌, ◌++◌, ◌∷◌, [], true, Ok, Err, None, IfOk};
 ghost use Rattle.rtgs_book.specs.declared.book.Book.{Book};
@@ -26,7 +26,7 @@ use std::alloc::{AllocError, Global};
 
 /// The text of a reading, as the book that the desk holds has it: a statement, a report, or JSON and a line feed.
 /// Refused as the desk refuses the reading, or for lack of memory. The readings of an order, a statement and a report
-/// ask the store, and can meet a fault of it, but for a code that nobody has. Nothing is done to the book.
+/// ask the store, and can meet a fault of it, except for a code that nobody has. Nothing is done to the book.
 pub fn text_of<K: Keeper>(
     alloc: Global,
     desk: &mut Desk<K>,

@@ -6,7 +6,7 @@ use Rattle.rtgs_http_requests.specs.declared.feeds.limits.TheConstants.{LONGEST_
 use Rattle.rtgs_http_requests.specs.feeds.Region.{IsTooLong, HasNoEnd}
 use Rattle.rtgs_http_requests.specs.Exchange.{HasBody}
 
--- the first bytes of an input, so many, are the body
+-- the first bytes of an input, this many, are the body
 pub body_of : (whole body tail : List ℕ) (size : ℕ) → whole ≡ body ++ tail → length body ≡ size
     → HasBody whole size (Ok body)
 body_of whole body tail size e len = (

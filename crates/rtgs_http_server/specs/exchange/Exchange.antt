@@ -52,7 +52,7 @@ IsAskedByBearer operator desk input =
     (book : Book) × HasParticipants desk book × (asked : Asked) × AsksFor operator (code_under book) input (Ok asked)
     × IsAllowed operator book input (Ok asked)
 
--- what an input comes to: on a desk that held a book, and on one that had failed
+-- what an input gives: on a desk that held a book, and on one that had failed
 pub record Exchanges {K : Type 0} (g : Ghosts K) (operator : List ℕ) (old : Seen K) (input : List ℕ) (new : Seen K)
     (sent : Message) : Type 0 where
   pub handles : g.is_honest new.keeper → (book : Book) → Holds g old book → Handles g operator book input new sent

@@ -92,7 +92,7 @@ pub record Makes {K : Type 0} (g : Ghosts K) (old : Book) (commands : List Comma
   pub whole_after_a_crash : g.is_whole desk.keeper
   pub calm_after_a_crash : (found : Book) → g.leaves desk.keeper found → IsCalm found
 
--- the commands that are given for what a request asks, where so many were replied to
+-- the commands that are given for what a request asks, where this many were replied to
 abbrev pub given : Result Asked HttpFault → ℕ → List Command
 given (Err fault) count = []
 given (Ok (Submit command)) count = take count (command ∷ [])

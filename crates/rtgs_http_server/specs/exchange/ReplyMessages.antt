@@ -39,7 +39,7 @@ abbrev pub reply_message : Reply → Message
 reply_message (Ok answer) = json_message 200 (answer_data answer)
 reply_message (Err refusal) = refused_message refusal
 
--- what a desk tells of this
+-- what a desk says of this
 abbrev pub result_message : {X : Type 0} → (X → Message) → Result X Refusal → Message
 result_message say (Ok value) = say value
 result_message say (Err refusal) = refused_message refusal

@@ -11,7 +11,7 @@ use rtgs_http_requests::{BodyFeed, BodyStep, HttpFault};
 use std::alloc::Global;
 use std::io::Read;
 
-/// The body of so many bytes, which begins with the piece.
+/// The body of this many bytes, which begins with the piece.
 pub fn read_body<R: Read>(
     alloc: Global,
     reader: &mut R,

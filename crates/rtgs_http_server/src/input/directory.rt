@@ -27,7 +27,7 @@ pub trait Directory {
 impl<K: Keeper> Directory for Desk<K> {
     ghost use Rattle.rtgs_http_server.specs.input.Known.{KnowsOf};
 
-    // The participants are those that the desk has in memory. A desk that has failed tells of nobody.
+    // The participants are those that the desk has in memory. A desk that has failed shows nobody.
     ghost knows = { λ desk code_of. KnowsOf K.Keeper desk code_of };
 
     ghost has_failed = { λ desk. K.has_failed desk.keeper };

@@ -9,7 +9,7 @@ use std::marker::Model;
 /// The most bytes that a reader is asked for at once.
 pub(crate) const PIECE: usize = 4096;
 
-/// What a reader gave last, but for what was taken of it. A clause sees these bytes.
+/// What a reader gave last, except what was taken of it. A clause sees these bytes.
 #[derive(Drop)]
 pub(in crate::input) struct Piece {
     bytes: [u8; PIECE],
@@ -65,7 +65,7 @@ impl Piece {
         }
     }
 
-    /// Takes so many bytes.
+    /// Takes this many bytes.
     pub(in crate::input) fn take(&mut self, count: usize)
         requires { count ≤ length self.old }
         ensures { self.new ≡ drop count self.old }

@@ -52,7 +52,7 @@ pub fn participants_are_shown_their_own_rows<K: Keeper>()
 }
 
 /// A book, the operator's digest and an input have one reply and one book after it. Set aside are replies with the
-/// status 503: memory was wanting, the store failed, or a batch stopped for one of these.
+/// status 503: memory ran out, the store failed, or a batch stopped for one of these.
 pub fn replies_are_determined<K: Keeper>()
     ensures { (operator input : List ℕ) (old : Book) (one other : Seen K) (sent again : Message)
         → Handles K.Keeper operator old input one sent → Handles K.Keeper operator old input other again
