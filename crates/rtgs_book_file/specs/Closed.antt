@@ -18,7 +18,7 @@ module _ {D : Type 0} {g : disk.Ghosts D} where
   LeavesNoMore c files =
       (last : FileStore D g) × IsClosed c last × (store.files last ≡ (files.log, files.db))
 
-  -- why a log was not copied: memory was wanting, or the store failed
+  -- why a log was not copied: memory ran out, or the store failed
   abbrev pub ExcusesLog : Held (FileStore D g) → Files D → Error → Type 0
   ExcusesLog c files error = (last : FileStore D g) × (store.files last ≡ (files.log, files.db))
       × (IsClean (store.view last) → FailsToClose c last error)

@@ -10,8 +10,8 @@ use Rattle.rtgs_book_file.specs.declared.object_count.ObjectCount.{ObjectCount}
 use Rattle.rtgs_book_file.specs.declared.object_count.ObjectCount.TheVariants.{Objects, WithoutSums, Unknown}
 
 module _ {D : Type 0} {g : Ghosts D} where
-  -- They list so many; or their pages are to end in sums, and they are no database that does. Where neither is known,
-  -- memory may have been wanting, so nothing is said.
+  -- They list this many; or their pages are to end in sums, and they are no database that does. Where neither is known,
+  -- memory may have run out, so nothing is said.
   abbrev pub Counts : Unopened D g → Unopened D g → Bool → ObjectCount → Type 0
   Counts old new has_sums (Objects count) = (rows : _) × IsCatalogOf old new rows × (count ≡ length rows)
   Counts old new has_sums WithoutSums = (has_sums ≡ true)

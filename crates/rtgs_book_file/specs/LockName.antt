@@ -8,7 +8,7 @@ use Rattle.rtgs_book_file.specs.declared.file_fault.FileFault.TheVariants.{Book}
 abbrev pub lock_name : List ℕ → List ℕ
 lock_name path = path ++ codes ".lock"
 
--- It is refused with this fault, and it is the file at this path, by the name of its lock; or memory was wanting for
+-- It is refused with this fault, and it is the file at this path, by the name of its lock; or memory ran out for
 -- that name. `bytes_of` gives the bytes of a name.
 abbrev pub IsOfLock : {N : Type 0} → (N → List ℕ) → List ℕ → Option N → FileFault → Type 0
 IsOfLock bytes_of path (Some name) fault = bytes_of name ≡ lock_name path

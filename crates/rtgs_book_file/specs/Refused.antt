@@ -30,7 +30,7 @@ use Rattle.rtgs_book_file.specs.declared.limits.TheConstants.{MOST_OBJECTS}
 use Rattle.rtgs_book_file.specs.declared.object_count.ObjectCount.{ObjectCount}
 use Rattle.rtgs_book_file.specs.declared.object_count.ObjectCount.TheVariants.{Objects, WithoutSums, Unknown}
 
--- another run holds the lock, or it cannot be made; or memory was wanting for it
+-- another run holds the lock, or it cannot be made; or memory ran out for it
 abbrev pub IsNotLocked : FileFault → Type 0
 IsNotLocked InUse = Unit {0}
 IsNotLocked FileExists = ⊥
@@ -60,7 +60,7 @@ IsCrowded Unknown fault = ⊥
 abbrev pub ShowsFault : Fault → Type 0
 ShowsFault fault = IsOfItsBeginning fault ⊎ ((listed : ObjectCount) × IsCrowded listed fault)
 
--- no file was opened: it cannot be, memory was wanting, or another program has it open
+-- no file was opened: it cannot be, memory ran out, or another program has it open
 abbrev pub IsOutOfReach : SqlError → Type 0
 IsOutOfReach error = (error ≡ SqliteFailure code.CannotOpen)
     ⊎ ((error ≡ SqliteFailure code.OutOfMemory) ⊎ (error ≡ SqliteFailure code.DatabaseBusy))

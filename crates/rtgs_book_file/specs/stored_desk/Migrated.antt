@@ -69,7 +69,7 @@ WasMigration false old new = IsUpToDate old new
 pub record IsUnmigrated (old : State) (fault : Fault) (new : State) : Type 0 where
   -- tables that hold a book are refused for lack of memory or a fault of the store alone
   pub cause : (book : Book) → AreSomeTablesOf book old.committed.trees → IsMemoryOrStore fault
-  -- over the schema of a version the rows explain the fault: one is in no form, or this is the first rule that they
+  -- over the schema of a version the rows explain the fault: one is malformed, or this is the first rule that they
   -- break
   pub explained : (version : ℕ) → IsVersion version → old.committed.schema ≡ schema_in version
       → ExplainsTrees version old.committed.trees fault

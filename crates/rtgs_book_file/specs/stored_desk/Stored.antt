@@ -82,11 +82,11 @@ pub record IsRefused (old : State) (fault : Fault) (new : State) : Type 0 where
   -- and those that hold any book by the rule that it is calm besides
   pub restless : (book : Book) → AreTablesOf book old.committed.trees
       → IsMemoryOrStore fault ⊎ (fault ≡ Inconsistent Calm)
-  -- over the schema of a desk the rows explain the fault: one is in no form, or this is the first rule that they break;
+  -- over the schema of a desk the rows explain the fault: one is malformed, or this is the first rule that they break;
   -- or they are those of a sound book that is not calm
   pub explained : old.committed.schema ≡ desk_schema
       → ExplainsTrees VERSION old.committed.trees fault ⊎ IsNotCalmAs (IsShown VERSION old.committed.trees) fault
-  -- whatever tables there were, a query has no answer over them, or shows a row in no form; or this is the first rule
+  -- whatever tables there were, a query has no answer over them, or shows a malformed row; or this is the first rule
   -- that the records break which the queries show; or the queries show a sound book that is not calm; or memory was
   -- refused or the store failed
   pub by_queries : ExplainsDatabase VERSION old.now fault ⊎ IsNotCalmAs (IsDisplayed VERSION old.now) fault
