@@ -36,7 +36,7 @@ use std::snapshot::Snapshot;
 type Sent = Result<(Vec<NewOrder>, BatchResult), Failure>;
 
 /// Submits a participant's file of orders to the desk over a file, and prints the results. A batch that stopped ends
-/// the run as stopped. Where memory is wanting for the results, the orders stand, and nothing is printed.
+/// the run as stopped. Where memory runs out for the results, the orders stand, and nothing is printed.
 pub fn import<B: BookFile, O: Write, P, N>(
     rt: &HostRuntime,
     file: &str,

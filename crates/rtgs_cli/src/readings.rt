@@ -1,4 +1,4 @@
-//! The run that shows what the desk over the file of a book tells of a reading. Where it is refused, nothing is printed
+//! The run that shows what the desk over the file of a book says of a reading. Where it is refused, nothing is printed
 //! but the rows of a statement before the one that was not read.
 
 mod statements;

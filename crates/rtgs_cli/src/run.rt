@@ -24,8 +24,8 @@ use sqlite::Start;
 use std::alloc::{AllocError, Global};
 use std::io::Write;
 
-/// Says what the command line itself has to say: help on standard output, a fault on standard error. Where memory was
-/// wanting, that is refused.
+/// Says what the command line itself has to say: help on standard output, a fault on standard error. Where memory ran
+/// out, that is refused.
 fn explain<O: Write, E: Write>(alloc: Global, error: &Error, out: &mut O, err: &mut E) -> Ended
     ensures { IsExplained (kind_of error.now) (record {
       out = record { contents = O.contents; before = out.old; after = out.new };

@@ -84,7 +84,7 @@ fn serve_book<B: BookFile, O: Write, F>(
     Ok((book.finish(), served))
 }
 
-// Serves so many connections on a port to the desk over a file. Refused where the port cannot be had, or for lack of
+// Serves this many connections on a port to the desk over a file. Refused where the port cannot be had, or for lack of
 // memory.
 fn serve_desk<B: BookFile, O: Write, F>(
     rt: &HostRuntime,

@@ -60,7 +60,7 @@ module _ {K B U C E O : Type 0} (A F P N : Type 0) (file : OverFile K U C) (desk
       lines = IfOk-at_ok (λ p. LeavesLines p.1 (contents old) (contents new)) is lines;
     }
 
-    -- it came to what the text that was written so comes to
+    -- it gave what the text that was written so gives
     pub states : (result outcome : Result Printed Failure) → result ≡ outcome_of_text written → result ≡ outcome
         → States file (reading.Statement code date) shown outcome (contents old) (contents new)
     states result outcome is_outcome same = (code, date, written, refl, sym same ∙ is_outcome, stated_with)

@@ -1,4 +1,4 @@
--- What reading a file of orders comes to.
+-- What reading a file of orders gives.
 use Rattle.std.specs.Prelude.{◌≡◌, ◌⊎◌, ◌<◌, ◌≤◌, ℕ, List, Result, Ok, Err, length}
 use Rattle.std.specs.IoError.{error_kind}
 use Rattle.std.specs.declared.io.Error.{Error}
@@ -30,7 +30,7 @@ AreRowsOf bytes_of (Ok read) rows = (length (bytes_of read) ≤ MOST_BYTES) × I
 AreRowsOf bytes_of (Err error) rows = ⊥
 
 -- Why no row of a file of orders is submitted that was read so: it is too long; it is not, and its bytes are no order
--- file, or memory is wanting; or the error of reading it says why.
+-- file, or memory runs out; or the error of reading it says why.
 abbrev pub RefusesRows : {V : Type 0} → (V → List ℕ) → Result V Error → Failure → Type 0
 RefusesRows bytes_of (Ok read) why =
     ((why ≡ OrdersTooLong) × (MOST_BYTES < length (bytes_of read)))

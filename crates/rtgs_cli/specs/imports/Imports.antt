@@ -62,7 +62,7 @@ module _ {A K U C P N : Type 0} (book_file : OverFile K U C) where
       (rows : List NewOrder) × (replies : List RowReply) × IsImported touched sender rows replies stopped
       × (text ≡ results_text rows replies stopped)
 
-  -- the rows of an order file were submitted, and memory was wanting for their results
+  -- the rows of an order file were submitted, and memory ran out for their results
   abbrev pub HasNoRoomForResults : Touched A U C (Used (Snapshot OrderFile) P N) → List ℕ → Failure → Type 0
   HasNoRoomForResults touched sender why =
       (why ≡ Refused OutOfMemory) × (rows : List NewOrder) × (replies : List RowReply) × (stopped : Option Refusal)

@@ -1,4 +1,4 @@
--- What a run comes to that wrote a text of the book like this.
+-- What a run gives that wrote a text of the book like this.
 use Rattle.std.specs.Prelude.{⊤, Result, Ok, Err}
 use Rattle.rtgs_statements.specs.declared.book_text_fault.BookTextFault.{BookTextFault}
 use Rattle.rtgs_statements.specs.declared.book_text_fault.BookTextFault.TheVariants as text

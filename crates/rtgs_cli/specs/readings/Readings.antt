@@ -37,7 +37,7 @@ module _ {K U C : Type 0} (file : OverFile K U C) where
   IsRead text_of reading read left = IsDone file left (λ book. StillHolds file.keeper book left
       × (Tells text_of (text_wanted book reading) read ⊎ ReadingFails file.keeper book reading left read))
 
-  -- The statement that is wanted of the book was written, or a beginning of it before memory was wanting, or the store
+  -- The statement that is wanted of the book was written, or a beginning of it before memory ran out, or the store
   -- or the writer failed; or what refuses it came, and nothing was written. Nothing was done to the book.
   abbrev pub IsWritten : List ℕ → ℕ → Result ⊤ BookTextFault → Option (List ℕ) → Option (List ℕ) → Seen K → Type 0
   IsWritten code date written old new left = IsDone file left (λ book. StillHolds file.keeper book left

@@ -45,8 +45,8 @@ abbrev pub server_text : ℕ → ℕ → Bool → List ℕ
 server_text port count failed = ended_line (done_line (Listening port))
     ++ (if failed then [] else ended_line (done_line (Served count)))
 
--- Of so many connections on a port some are left. None is where all was printed; and all are, where the line that says
--- on which port they are taken was not printed whole.
+-- Of this many connections on a port some are left. None is where all was printed; and all are, where the line that
+-- says on which port they are taken was not printed whole.
 abbrev pub TakesAsPrinted : ℕ → ℕ → ℕ → Printed → Option (List ℕ) → Option (List ℕ) → Type 0
 TakesAsPrinted port count left printed old new = (printed ≡ Whole → left ≡ 0)
     × ((left ≡ count) ⊎ ((rest : List ℕ) × Appends old new (ended_line (done_line (Listening port)) ++ rest)))

@@ -20,7 +20,7 @@ use std::alloc::Global;
 use std::io::Write;
 
 /// Submits the orders of a file with these bytes, each as an order of the sender. Refused where the bytes are no order
-/// file, or memory is wanting before the first order; then nothing was submitted.
+/// file, or memory runs out before the first order; then nothing was submitted.
 pub fn submit_orders<K: Keeper>(
     alloc: Global,
     desk: &mut Desk<K>,
@@ -48,7 +48,7 @@ pub fn submit_orders<K: Keeper>(
     }
 }
 
-/// Prints the results of a batch. Where memory is wanting nothing is printed.
+/// Prints the results of a batch. Where memory runs out, nothing is printed.
 pub fn print_results<O: Write>(
     alloc: Global,
     out: &mut O,

@@ -52,7 +52,7 @@ pub fn read_bytes<R: Read + Drop>(alloc: Global, reader: R) -> io::Result<Vec<u8
     Ok(bytes)
 }
 
-// What an error of reading a file of orders comes to.
+// What an error of reading a file of orders means.
 fn failure_of(kind: ErrorKind) -> Failure
     ensures { result ≡ failure_of_reading kind }
 {

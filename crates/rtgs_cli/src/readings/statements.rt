@@ -19,7 +19,7 @@ use rtgs_statements::BookTextFault;
 use std::io::Write;
 
 /// Prints a participant's statement for a date, each row as its record is read. Where nobody has the code, or no desk
-/// is opened over the file, nothing is printed; where the store fails, or memory is wanting, the rows before it were.
+/// is opened over the file, nothing is printed; where the store fails, or memory runs out, the rows before it were.
 pub fn show_statement<B: BookFile, O: Write, F, P, N>(
     rt: &HostRuntime,
     file: &str,
@@ -69,7 +69,7 @@ fn write<B: BookFile, O: Write>(
     Ok((book.finish(), written))
 }
 
-// What a run comes to that wrote a text of the book like this.
+// What a run gives that wrote a text of the book like this.
 fn outcome(written: Result<(), BookTextFault>) -> Result<Printed, Failure>
     ensures { result ≡ outcome_of_text written }
 {

@@ -17,7 +17,7 @@ use rtgs_keeper::Keeper;
 use rtgs_output::send_all;
 use std::io::Write;
 
-/// Prints what the desk over a file tells of a reading: a statement row by row, as its records are read, and else the
+/// Prints what the desk over a file says of a reading: a statement row by row, as its records are read, and else the
 /// whole text, once the file is closed.
 pub fn show<B: BookFile, O: Write, F, P, N>(
     rt: &HostRuntime,

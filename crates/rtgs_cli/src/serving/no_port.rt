@@ -38,7 +38,7 @@ impl NoPort {
     }
 }
 
-// What an error of listening comes to.
+// What an error of listening means.
 fn failure_of(kind: ErrorKind) -> Failure
     ensures { result ≡ failure_of_listening kind }
 {
