@@ -30,7 +30,7 @@ closed_stays : (book : Book) (choice : Choice) → is_closed book.day.phase ≡ 
 unfolding resolve first_of
 closed_stays book choice e = rw e refl
 
--- what a resolution comes to
+-- what a resolution gives
 settles : (old : Book) (own : Outcome) → Gives old Resolve own → Settles old own.book
 settles old own s = record {
   choice = s.0;

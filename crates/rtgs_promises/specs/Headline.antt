@@ -97,7 +97,7 @@ pub record LeavesRows (book : Book) (s : State) : Type 0 where
 abbrev pub LeavesExactly : Book → State → Type 0
 LeavesExactly book s = (trees : Trees) → s.may_leave trees → AreExactly book trees
 
--- where no desk opened, memory was wanting, or the store failed
+-- where no desk opened, memory ran out, or the store failed
 abbrev pub IsForced : NoSession → Type 0
 IsForced (NoDesk fault) = (fault ≡ OutOfMemory) ⊎ (fault ≡ StoreFault)
 IsForced cause = ⊤

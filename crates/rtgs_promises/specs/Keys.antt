@@ -1,4 +1,4 @@
--- Who acts by a request, and what a request comes to. `g` has the members of the keeper's trait.
+-- Who acts by a request, and what a request gives. `g` has the members of the keeper's trait.
 use Rattle.std.specs.Prelude.{◌≡◌, ◌⊎◌, ℕ, List, [], ◌∷◌, length, Option, Some}
 use Rattle.std.specs.List.{AllByRecursion}
 use Rattle.rtgs_book.specs.declared.book.Book.{Book}

@@ -1,4 +1,4 @@
-//! What follows for a book from the definitions of the commands, whatever keeps it. All are laws, but for the call of
+//! What follows for a book from the definitions of the commands, whatever keeps it. All are laws, except the call of
 //! the resolver: a law's function does nothing, and its contract is the law.
 //!
 //! "The ten of a command" are those that say what a command does to a book: of `rtgs_book` Books, Lookup, Balance,

@@ -106,7 +106,7 @@ pub fn stored_money_is_what_was_posted<S: Alter>(conn: &Connection<S>)
 }
 
 /// **Promise 11, as a call.** A batch is sent, the desk stops, is opened again, and the whole batch is sent once more.
-/// If this sending comes to its end, the desk holds the book that one sending would have made.
+/// If this sending reaches its end, the desk holds the book that one sending would have made.
 // To judge it, read these 19 files: rtgs_book Run, Calm, cores.Cores, Soundness, Ranges; the ten of a command;
 // rtgs_desk Holding, batches.Batches, Seen; rtgs_money Amounts.
 pub fn send_a_batch_twice<S: Alter + Reopen + Drop>(

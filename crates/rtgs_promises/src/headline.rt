@@ -47,7 +47,7 @@ use std::alloc::Global;
 ///   automatic day nothing was left that could settle.
 /// - The tables have the rows of the last book and no others. Each stored balance is the sum from scratch, and
 ///   together these balances are what was posted.
-/// - Where a session could not be had, memory was wanting or the store failed. All this then holds of the sessions
+/// - Where a session could not be had, memory ran out or the store failed. All this then holds of the sessions
 ///   before it, in whatever a crash leaves.
 ///
 /// The function makes the tables, and goes on as `live`, over any store. Premises: nobody else writes the file, and

@@ -24,7 +24,7 @@ use rtgs_tables::SqlKeeper;
 use sqlite::{Alter, Connection};
 use std::alloc::Global;
 
-/// Opens a desk, and has room for the replies of so many sessions.
+/// Opens a desk, and has room for the replies of this many sessions.
 pub(crate) fn begun<S: Alter + Drop>(
     alloc: Global,
     conn: Connection<S>,

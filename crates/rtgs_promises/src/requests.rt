@@ -1,4 +1,4 @@
-//! What a request over HTTP comes to, who acts by it, and what its reply tells.
+//! What a request over HTTP gives, who acts by it, and what its reply tells.
 //!
 //! "The ten of a command" are those that say what a command does to a book: of `rtgs_book` Books, Lookup, Balance,
 //! Queue, Choice, Settle, Outcome, Commands and Step, and of `rtgs_money` Date.
