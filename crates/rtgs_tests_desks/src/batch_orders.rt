@@ -22,7 +22,7 @@ pub fn orders(alloc: Global, script: &str, most: usize) -> Result<Vec<NewOrder>,
     Ok(orders)
 }
 
-/// Sends the first of ALFA's orders of a script in one batch, of which so many come again, and counts those that are
+/// Sends the first of ALFA's orders of a script in one batch, of which this many come again, and counts those that are
 /// replied to before a fault of the store, and nothing else, stops them.
 pub fn sent<K: Keeper>(
     alloc: Global,
@@ -40,8 +40,8 @@ pub fn sent<K: Keeper>(
     replied(alloc, batch.replies.as_slice(), script, known)
 }
 
-// Counts the replies, of which so many are to orders that come again. Each is as the script tells of its order, but for
-// what was resolved after it, which no reply to a row tells.
+// Counts the replies, of which this many are to orders that come again. Each is as the script says of its order, except
+// for what was resolved after it, which no reply to a row tells.
 fn replied(alloc: Global, replies: &[RowReply], script: &str, known: usize) -> Result<usize, Fail> {
     let mut count = 0usize;
     for (line, reply) in script.lines().zip(replies) {

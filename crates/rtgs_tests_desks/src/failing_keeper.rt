@@ -44,7 +44,7 @@ pub struct FailingKeeper<K> {
 }
 
 impl<K: Keeper> FailingKeeper<K> {
-    /// Over this keeper. So many calls of any kind go well, and the next one meets trouble.
+    /// Over this keeper. This many calls of any kind go well, and the next one meets trouble.
     pub fn new(kept: K, calls: usize, trouble: Trouble) -> FailingKeeper<K> {
         FailingKeeper {
             kept,
@@ -54,7 +54,7 @@ impl<K: Keeper> FailingKeeper<K> {
         }
     }
 
-    /// Over what it keeps, as after a restart. So many calls of any kind go well, and the next one meets trouble.
+    /// Over what it keeps, as after a restart. This many calls of any kind go well, and the next one meets trouble.
     pub fn restarted(self, calls: usize, trouble: Trouble) -> FailingKeeper<K> {
         let FailingKeeper {
             kept,
@@ -239,7 +239,7 @@ fn what_holds_a_book_is_whole<K: Keeper>(keeper: &K)
     let _ = keeper;
 }
 
-/// A keeper in memory of a new book, which meets this trouble after so many calls.
+/// A keeper in memory of a new book, which meets this trouble after this many calls.
 pub fn failing(alloc: Global, calls: usize, trouble: Trouble) -> FailingKeeper<MemoryKeeper> {
     FailingKeeper::new(MemoryKeeper::new(alloc), calls, trouble)
 }

@@ -1,4 +1,4 @@
-//! What a desk tells of its book.
+//! What a desk says of its book.
 use rtgs_desk::Desk;
 use rtgs_keeper::Keeper;
 use rtgs_money::{BusinessDate, Code};
@@ -44,7 +44,7 @@ fn bank_of<K: Keeper>(
     Ok(format!(in alloc; "{account:?} {queue:?} {statement}")?)
 }
 
-/// What a desk tells of ALFA, BETA and GAMA, and of a day: its report, and the account, the queue and the statement of
+/// What a desk says of ALFA, BETA and GAMA, and of a day: its report, and the account, the queue and the statement of
 /// each.
 pub fn seen_of<K: Keeper>(alloc: Global, desk: &mut Desk<K>, day: &str) -> Result<String, Fail> {
     let date = BusinessDate::read(day.as_bytes())?;

@@ -3,7 +3,7 @@
 //!
 //! ALFA, BETA and GAMA begin with nothing, on a day that is open and not automatic. Each line is one of these:
 //!
-//! - `post BANK CENTS` gives a bank so many cents, and `credit BANK CENTS` sets its credit limit.
+//! - `post BANK CENTS` gives a bank this many cents, and `credit BANK CENTS` sets its credit limit.
 //! - `order SENDER REFERENCE RECEIVER CENTS` is an order, which has to wait when it comes. No two orders of a scenario
 //!   share a reference.
 //! - `resolve REFERENCES` is a resolution, which settles these orders and no others. They stand in the order in which

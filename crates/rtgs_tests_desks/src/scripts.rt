@@ -35,7 +35,7 @@ pub fn command(line: &str) -> Result<Command, Fail> {
     }
 }
 
-// The words of a command of this kind, of so many words, that is no order.
+// The words of a command of this kind, of this many words, that is no order.
 fn spelt<'a>(
     kind: &str,
     count: usize,
@@ -176,7 +176,7 @@ fn answer_text(alloc: Global, answer: &WholeAnswer) -> Result<String, Fail> {
     }
 }
 
-/// Gives the desk the first of the commands of a script, at most so many, and counts those that are answered before a
+/// Gives the desk the first of the commands of a script, at most this many, and counts those that are answered before a
 /// fault of the store that the script does not tell. The known ones among them come again. It fails where another
 /// answer is given, and where the desk says that it has failed and answered no fault of the store, or the other way
 /// round.

@@ -6,10 +6,10 @@ use std::test::Fail;
 /// What a scenario is run at, line by line. Each call fails where the layer does otherwise than the line says; a layer
 /// that is given a script may note what the line says, and fail when the script is followed.
 pub trait Layer {
-    /// A bank gets so many cents by the posting with this number.
+    /// A bank gets this many cents by the posting with this number.
     fn posts(&mut self, number: u64, bank: &str, cents: u32) -> Result<(), Fail>;
 
-    /// A bank's credit limit becomes so many cents.
+    /// A bank's credit limit becomes this many cents.
     fn limits(&mut self, bank: &str, cents: u32) -> Result<(), Fail>;
 
     /// An order comes, and waits at this place of its queue.
