@@ -12,9 +12,9 @@ from lib import stated
 
 LIST, TO_DO = "CONTRIBUTING.md", "bin/lib/words_to_do.txt"
 ROW = re.compile(r'^\| ("[^|]*) \| [^|]+ \|$', re.M)
-# what has the words by its office: their check, what stands in for the kit, and what is made or was found earlier
+# what has the words by its office: their check, what stands in for the kit, and what was found earlier
 LEFT_OUT = re.compile(r"bin/lib/(?:words\.py|words_to_do\.txt|tests/test_words\.py|tests/fake_rt\.py)"
-                      r"|docs/CONTRACTS\.md|kept_books/.*\.txt|evidence/.*\.txt")
+                      r"|kept_books/.*\.txt|evidence/.*\.txt")
 WHOLE = re.compile(r"bin/.*|docs/.*|deploy/.*|\.ci/.*|.*\.md")
 COMMENTS = {".rt": re.compile(r"//[^\n]*"), ".antt": re.compile(r"--[^\n]*")}
 

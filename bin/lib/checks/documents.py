@@ -3,11 +3,11 @@
 README.md has at most 900 words, docs/GUARANTEES.md at most 6,000, and docs/DECISIONS.md at most 60 entries, all of one
 form. Each file that a document names must be there, and each heading to which it links. GUARANTEES.md must have each
 promise of the crate `rtgs_promises` with its first sentences, and no other; the functions, clauses and types that it
-names must stand in docs/CONTRACTS.md, or else in the code. SPECIFICATION.md must have the refusals as the code has
-them; what bin/tables writes into other documents must be there; and the day in OPERATORS.md has commands and refusals
-as SPECIFICATION.md lists them. Each number must be one of a constant, of a refusal, or of another script or test
-(bin/lib/stated.py); measures stand in COSTS.md alone, in sections that name what measured them. No text has the words
-that CONTRIBUTING.md lists as not to be used, except for those that bin/lib/words_to_do.txt counts.
+names must stand in the list that `bin/contracts` makes, or else in the code. SPECIFICATION.md must have the refusals as
+the code has them; what bin/tables writes into other documents must be there; and the day in OPERATORS.md has commands
+and refusals as SPECIFICATION.md lists them. Each number must be one of a constant, of a refusal, or of another script
+or test (bin/lib/stated.py); measures stand in COSTS.md alone, in sections that name what measured them. No text has the
+words that CONTRIBUTING.md lists as not to be used, except for those that bin/lib/words_to_do.txt counts.
 
 Of each file of evidence it says whether it is of the tree that is checked out. README.md and GUARANTEES.md may name a
 file of evidence only if it is, or its lines are what its script makes of the tests of this tree; beside that they name
@@ -20,6 +20,7 @@ import os
 import re
 
 import kit
+from lib import contracts as listing
 from lib import evidence, findings, stated, tables, words
 from lib.checks import asserted
 
@@ -28,7 +29,7 @@ WORDS = {"README.md": 900, "docs/GUARANTEES.md": 6000, "docs/OPERATORS.md": 5500
 ENTRIES = 60
 DECISIONS, GUARANTEES, COSTS = "docs/DECISIONS.md", "docs/GUARANTEES.md", "docs/COSTS.md"
 AUDIT = "docs/audit.sql"
-SPECIFICATION, CONTRACTS, OPERATORS = "docs/SPECIFICATION.md", "docs/CONTRACTS.md", "docs/OPERATORS.md"
+SPECIFICATION, OPERATORS = "docs/SPECIFICATION.md", "docs/OPERATORS.md"
 FORM = ["Chosen", "Because", "Instead of", "Price"]
 PROMISE = re.compile(r"((?:^///[^\n]*\n)+)// To judge it, read (?:[^\n]*\n)(?:// [^\n]*\n)*^pub fn (\w+)", re.M)
 # what stands for a name, or is made by a run
@@ -48,8 +49,8 @@ def folded(text):
 
 
 def documents():
-    """Returns the names of the documents that are written by hand."""
-    return [it for it in names_of("") + names_of("docs/") + names_of("evidence/") if it != CONTRACTS]
+    """Returns the names of the documents."""
+    return names_of("") + names_of("docs/") + names_of("evidence/")
 
 
 def lengths(sees):
@@ -156,7 +157,7 @@ def same_promises(text, sees):
 def contracts():
     """Returns the names of the clauses of each function, by its path."""
     found = {}
-    for part in re.split(r"^### ", read(CONTRACTS), flags=re.M)[1:]:
+    for part in re.split(r"^### ", listing.text(), flags=re.M)[1:]:
         path = part.partition("\n")[0].strip("`")
         found[path] = set(re.findall(r"^- (?:ensures\*?|requires|ghost) (\w+):", part, re.M))
     return found
@@ -195,7 +196,7 @@ def cited_clauses(text, sees):
 
 def names(name, text, sees):
     """Each name of a function or a type stands in the code. Those that stand among the promises must be public."""
-    listed = set(re.findall(r"\w+", read(CONTRACTS))) | words_of_definitions()
+    listed = set(re.findall(r"\w+", listing.text())) | words_of_definitions()
     promised = section(text, "The promises", "Beside the main promises")
     for it in sorted(set(re.findall(r"`([A-Za-z]\w*(?:::\w+)*)`", text))):
         parts = it.split("::")

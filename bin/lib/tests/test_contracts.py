@@ -20,7 +20,6 @@ class Contracts(unittest.TestCase):
         self.top = f"{folder.name}/tree"
         shutil.copytree(f"{kit.TOP}/bin", f"{self.top}/bin", ignore=shutil.ignore_patterns("__pycache__"))
         self.write("crates.txt", "it:\n")
-        self.write("docs/CONTRACTS.md", "")
         self.write("crates/it/src/lib.rt", ROOT)
         self.write("crates/it/src/low.rt", LOW)
         for path, name in (("own", "once"), ("low/deep", "twice"), ("low/laws", "law"), ("low/hidden", "hidden")):
@@ -35,7 +34,7 @@ class Contracts(unittest.TestCase):
         """Returns the names that the list has, in their order."""
         ran = subprocess.run([f"{self.top}/bin/contracts"], capture_output=True, text=True, check=False)
         self.assertEqual((ran.returncode, ran.stderr), (0, ""))
-        with open(f"{self.top}/docs/CONTRACTS.md", encoding="utf-8") as it:
+        with open(f"{self.top}/out/CONTRACTS.md", encoding="utf-8") as it:
             return sorted(line.strip("# `\n") for line in it if line.startswith("### "))
 
     def test_what_is_passed_on_has_the_name_that_other_crates_call(self):
