@@ -60,14 +60,16 @@ def lengths(sees):
 
 
 def decisions(text, sees):
-    """Each entry has a number of its own, and the four parts."""
-    entries = re.findall(r"^## (\d+)\. [^\n]+\n(.*?)(?=^#|\Z)", text, re.M | re.S)
-    numbers = [number for number, _ in entries]
+    """Each entry has a name of its own, a place in the table on top, and the four parts."""
+    table, _, body = text.partition("\n# ")
+    entries = re.findall(r"^## ([^\n]+)\n(.*?)(?=^#|\Z)", body, re.M | re.S)
     sees(f"{DECISIONS} has {len(entries)} entries, at most {ENTRIES}", len(entries) <= ENTRIES, True)
-    sees("entries with one number", sorted({it for it in numbers if numbers.count(it) > 1}), [])
-    for number, entry in entries:
+    named = sorted(anchor(name) for name, _ in entries)
+    sees("entries with one name", sorted({it for it in named if named.count(it) > 1}), [])
+    sees(f"{DECISIONS}, the entries in the table by topic", sorted(re.findall(r"\]\(#([^)]*)\)", table)), named)
+    for name, entry in entries:
         found = re.findall(r"^\*\*([\w ]+):\*\* ", entry, re.M)
-        sees(f"{DECISIONS}, the parts of entry {number}", (found, len(entry.strip().split("\n\n"))), (FORM, 4))
+        sees(f"{DECISIONS}, the parts of: {name}", (found, len(entry.strip().split("\n\n"))), (FORM, 4))
 
 
 # Files
@@ -101,10 +103,14 @@ def named_files(text):
         yield it
 
 
+def anchor(head):
+    """Returns what leads to a heading."""
+    return re.sub(r"[^\w -]", "", head.lower()).replace(" ", "-")
+
+
 def anchors(text):
     """Returns what leads to the headings of a text."""
-    heads = re.findall(r"^#+ (.*)$", text, re.M)
-    return {re.sub(r"[^\w -]", "", it.lower()).replace(" ", "-") for it in heads}
+    return {anchor(it) for it in re.findall(r"^#+ (.*)$", text, re.M)}
 
 
 def files(name, text, sees):

@@ -141,13 +141,18 @@ class Documents(unittest.TestCase):
         self.assertEqual(stated.refusals()[94], ("Inconsistent", None, 3))
         self.assertRaises(ValueError, stated.constant, "rtgs_book/src/limits.rt", "NONE")
 
-    def test_an_entry_has_a_number_of_its_own_and_four_parts(self):
-        entry = "## {}. A\n\n**Chosen:** a\n\n**Because:** b\n\n**Instead of:** c\n\n**Price:** d\n\n"
-        good = entry.format(1) + "# Part\n\n" + entry.format(2)
+    def test_an_entry_has_a_name_of_its_own_a_place_in_the_table_and_four_parts(self):
+        entry = "## {} a way\n\n**Chosen:** a\n\n**Because:** b\n\n**Instead of:** c\n\n**Price:** d\n\n"
+        table = "# All\n\n## By topic\n\n| A | [One](#one-a-way); [Two](#two-a-way) |\n\n"
+        good = table + "# Part\n\n" + entry.format("One") + "# Part\n\n" + entry.format("`Two`")
+        without = "docs/DECISIONS.md, the entries in the table by topic"
         self.assertEqual(self.found(documents.decisions, good), [])
-        self.assertEqual(self.found(documents.decisions, good + entry.format(1)), ["entries with one number"])
+        twice = self.found(documents.decisions, good + entry.format("One"))
+        self.assertEqual(twice, ["entries with one name", without])
+        self.assertEqual(self.found(documents.decisions, good + entry.format("Three")), [without])
+        self.assertEqual(self.found(documents.decisions, good.replace("[Two](#two-a-way)", "")), [without])
         bad = good.replace("**Price:** d\n\n# Part", "# Part")
-        self.assertEqual(self.found(documents.decisions, bad), ["docs/DECISIONS.md, the parts of entry 1"])
+        self.assertEqual(self.found(documents.decisions, bad), ["docs/DECISIONS.md, the parts of: One a way"])
 
     def test_files_and_headings_that_are_named_must_be_there(self):
         good = "docs/COSTS.md, COSTS.md, `rtgs_book/src/book.rt`, bin/tour, [it](#a-part), [it](README.md)\n## A part\n"
