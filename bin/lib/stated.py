@@ -84,7 +84,7 @@ TEXTS = {
     "README.md": ["a file of {tables:w} SQLite tables"],
     "docs/GUARANTEES.md": [
         "more than {objects} tables, indexes, views and triggers",
-        "status is {failed}",
+        "with status {failed}. Else",
         "what was printed ({done}, and {failed} for a batch",
         "of the refusal ({refused} or {failed}), of help ({done}) or of a misuse ({misused})",
         "between -{least:d} times {total_bound:p} and {least:d} times {total_bound:p}",

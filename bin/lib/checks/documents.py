@@ -2,12 +2,13 @@
 
 README.md has at most 900 words, docs/GUARANTEES.md at most 6,000, and docs/DECISIONS.md at most 60 entries, all of one
 form. Each file that a document names must be there, and each heading to which it links. GUARANTEES.md must have each
-promise of the crate `rtgs_promises` with its first sentences, and no other; the functions, clauses and types that it
-names must stand in the list that `bin/contracts` makes, or else in the code. SPECIFICATION.md must have the refusals as
-the code has them; what bin/tables writes into other documents must be there; and the day in OPERATORS.md has commands
-and refusals as SPECIFICATION.md lists them. Each number must be one of a constant, of a refusal, or of another script
-or test (bin/lib/stated.py); measures stand in COSTS.md alone, in sections that name what measured them. No text has the
-words that CONTRIBUTING.md lists as not to be used, except for those that bin/lib/words_to_do.txt counts.
+promise of the crate `rtgs_promises` with its first sentences, and no other, and in the table on top with its number and
+how many files have to be judged; the functions, clauses and types that it names must stand in the list that
+`bin/contracts` makes, or else in the code. SPECIFICATION.md must have the refusals as the code has them; what
+bin/tables writes into other documents must be there; and the day in OPERATORS.md has commands and refusals as
+SPECIFICATION.md lists them. Each number must be one of a constant, of a refusal, or of another script or test
+(bin/lib/stated.py); measures stand in COSTS.md alone, in sections that name what measured them. No text has the words
+that CONTRIBUTING.md lists as not to be used, except for those that bin/lib/words_to_do.txt counts.
 
 Of each file of evidence it says whether it is of the tree that is checked out. README.md and GUARANTEES.md may name a
 file of evidence only if it is, or its lines are what its script makes of the tests of this tree; beside that they name
@@ -159,6 +160,32 @@ def same_promises(text, sees):
         sees(f"premises of {link}", said.count("*Premises:*"), 1)
 
 
+# a row of the table on top of GUARANTEES.md: a promise's number, and its functions, each with a number of files
+GLANCE = re.compile(r"^\| (\d+) \| [^|]* \| (`\w+` \(\d+\)(?:, `\w+` \(\d+\))*) \|", re.M)
+JUDGED = re.compile(r"^/// \*\*Promise (\d+)\b[^\n]*\n(?:///[^\n]*\n)*// To judge it, read (?:these (\d+) files|this file)"
+                    r"[^\n]*\n(?:// [^\n]*\n)*pub fn (\w+)", re.M)
+
+
+def judged():
+    """Returns for each promise of the crate its number, and how many files of definitions its list has."""
+    found = {}
+    for path in names_of("crates/rtgs_promises/src/", "*.rt"):
+        found |= {name: (int(number), int(files or 1)) for number, files, name in JUDGED.findall(read(path))}
+    return found
+
+
+def at_a_glance(text, sees):
+    """The table on top has each promise with its number, and the number of files that bin/promises lists above it."""
+    rows = GLANCE.findall(section(text, "At a glance"))
+    sees("numbers of the promises at a glance", [int(it) for it, _ in rows], list(range(1, len(rows) + 1)))
+    found = {name: (int(number), int(files)) for number, functions in rows
+             for name, files in re.findall(r"`(\w+)` \((\d+)\)", functions)}
+    wanted = judged()
+    sees("promises that have a list of files", sorted(wanted), sorted(re.search(r"`(\w+)`", it)[1] for it in promises()))
+    for name in sorted({*found, *wanted}):
+        sees(f"number and files of {name} at a glance", found.get(name), wanted.get(name))
+
+
 @functools.lru_cache(maxsize=None)
 def contracts():
     """Returns the names of the clauses of each function, by its path."""
@@ -290,7 +317,8 @@ def queries(text, sees):
 def numbers(name, text, sees):
     """Each number of a document is stated by the code, or is that of a refusal or a status."""
     text, refusals = without_stated(name, text, sees), stated.refusals()
-    text = blanked(text, [it.span() for it in OTHER.finditer(text)])
+    forms = (GLANCE, OTHER) if name == GUARANTEES else (OTHER,)
+    text = blanked(text, [it.span() for form in forms for it in form.finditer(text)])
     for found in NUMBER.finditer(text):
         line = text.count("\n", 0, found.start()) + 1
         sees(f"{name}, line {line}: {folded(found[0])} is stated by nothing", is_known(found, refusals), True)
@@ -410,6 +438,7 @@ def run(_given, report):
             numbers(name, read(name), report.sees)
     guarantees = read(GUARANTEES)
     same_promises(guarantees, report.sees)
+    at_a_glance(guarantees, report.sees)
     cited_clauses(folded(guarantees), report.sees)
     for name in ("README.md", GUARANTEES):
         names(name, read(name), report.sees)

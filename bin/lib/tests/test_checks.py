@@ -169,6 +169,26 @@ class Documents(unittest.TestCase):
             self.assertEqual(self.found(documents.same_promises, good.replace("\n## Else", "- [`b`](b): B\n\n## Else")),
                              ["links of the promises"])
 
+    def at_a_glance(self, rows):
+        """Returns what is wrong with these rows of two promises, of which one has two functions."""
+        wanted = {"a": (1, 24), "b": (1, 3), "c": (2, 1)}
+        text = "## At a glance\n\n| promise | files |\n|---|---|\n" + rows + "\n## Else\n"
+        with mock.patch.object(documents, "judged", lambda: wanted), \
+                mock.patch.object(documents, "promises", lambda: {f"[`{it}`](d)": "" for it in wanted}):
+            return self.found(documents.at_a_glance, text)
+
+    def test_the_table_on_top_has_each_promise_with_its_files(self):
+        good = "| 1 | so | `a` (24), `b` (3) | |\n| 2 | so | `c` (1) | |\n"
+        self.assertEqual(self.at_a_glance(good), [])
+        for old, new, name in (("24", "25", "a"), (", `b` (3)", "", "b"), ("`c`", "`d`", "c")):
+            self.assertIn(f"number and files of {name} at a glance", self.at_a_glance(good.replace(old, new)))
+        self.assertIn("numbers of the promises at a glance", self.at_a_glance(good.replace("| 2 |", "| 3 |")))
+
+    def test_the_lists_of_files_are_counted(self):
+        found = documents.judged()
+        self.assertEqual(sorted(number for number, _ in found.values())[::len(found) - 1], [1, 16])
+        self.assertEqual((found["every_limit"], found["make_and_live"][1] > 9), ((16, 1), True))
+
     def test_clauses_and_names_must_be_those_of_the_code(self):
         good = "`Desk::submit` (`acts`, which is `Acts`: `judged`; `faults`), `make` of `rtgs_book_file` (`stops`)"
         self.assertEqual(self.found(documents.cited_clauses, good), [])
