@@ -81,7 +81,10 @@ QUERIES = [
 ]
 # the texts of each document
 TEXTS = {
-    "README.md": ["a file of {tables:w} SQLite tables"],
+    "README.md": [
+        "a file of {tables:w} SQLite tables",
+        "at most {participants} banks, and {queue} waiting orders a bank",
+    ],
     "docs/GUARANTEES.md": [
         "more than {objects} tables, indexes, views and triggers",
         "with status {failed}. Else",

@@ -6,9 +6,9 @@ else on standard output, and the exit status must be the one that goes with that
 OPERATORS.md is one session in a folder that has a book of an earlier version, and so is CHANGELOG.md. AUDITORS.md goes
 on with the book that OPERATORS.md makes before its section on HTTP: each query of audit.sql over a copy, and each fault
 in a copy of its own. BANKS.md has a book and a server made for it. The examples of the man page are a session too, and
-so are those of README.md over the book that it makes, and those of SPECIFICATION.md over one that is made for it; the
-order files shown there are read, and the words of each command are those of the program's help. Needs the stock
-`sqlite3` and `curl`.
+so are those of README.md over the book that it makes, and those of SPECIFICATION.md over one that is made for it. What
+README.md shows of the tour must be some of its lines, as they follow one another. The order files of SPECIFICATION.md
+are read, and the words of each command are those of the program's help. Needs the stock `sqlite3` and `curl`.
 
 Shows: that each command and query of the handbooks and of the man page prints what they show, on its stream, and ends
 with its status.
@@ -44,6 +44,8 @@ BOOK_OF_TEXTS = [
       for code, row in {"ALFA": "A-1,BETA", "BETA": "B-1,GAMA", "GAMA": "G-1,ALFA"}.items()],
     "desk resolve bank.desk",
 ]
+# what README.md shows of the tour
+OF_THE_TOUR = re.compile(r"^    bin/tour\n.*?^```text\n(.*?)^```$", re.M | re.S)
 ORDER_FILE = re.compile(r"^    reference,to,amount(?:,due)?\n(?:    [^ ].*\n)+", re.M)
 FORM = re.compile(r"^    desk (\w+ .*)$", re.M)
 REPORT, REPORTED = "desk report {0} 2024-03-05", "report 2024-03-05"
@@ -261,8 +263,17 @@ def man_page(session, report):
     session.follow(manual.examples(manual.page()), SHOWN, report)
 
 
+def tour(text, report):
+    """What a document shows of the tour are lines that it prints, one after another."""
+    ran = subprocess.run([f"{kit.TOP}/bin/tour"], capture_output=True, text=True, check=False)
+    for it in (shown := OF_THE_TOUR.findall(text)):
+        report.sees(f"the tour prints: {it}", f"\n{it}" in f"\n{ran.stdout}", True)
+    report.sees("how the tour ends, and texts that show some of it", (ran.returncode, len(shown)), (0, 1))
+
+
 def readme(session, report):
     text = document("README.md")
+    tour(text, report)
     made = ["".join(it) for it in MADE.findall(text)]
     report.sees("commands that make the book of README.md", len(made) > 3, True)
     for command in made:

@@ -250,6 +250,16 @@ class Handbooks(unittest.TestCase):
         ):
             self.assertEqual(handbooks.ended(shown), wanted)
 
+    def test_what_is_shown_of_the_tour_is_what_it_prints(self):
+        text = "```text\nno\n```\n\n    bin/tour\n\nIt prints:\n\n```text\n$ b\nc\n```\n\n```text\nno\n```\n"
+        for printed, status, wrong in (("a\n$ b\nc\nd\n", 0, 0), ("$ b\nd\nc\n", 0, 1), ("a$ b\nc\n", 0, 1),
+                                       ("$ b\nc\n", 1, 1)):
+            report, ran = quiet(), mock.Mock(stdout=printed, returncode=status)
+            with mock.patch.object(handbooks.subprocess, "run", lambda *_, ran=ran, **__: ran):
+                handbooks.tour(text, report)
+            self.assertEqual(report.wrong, wrong, printed)
+        self.assertEqual(len(handbooks.OF_THE_TOUR.findall(handbooks.document("README.md"))), 1)
+
     def test_no_command_of_a_handbook_shows_lines_of_both_streams(self):
         for name, shown in (("OPERATORS", handbooks.SHOWN), ("AUDITORS", handbooks.SHOWN),
                             ("BANKS", handbooks.SHOWN_TO_BANKS)):
