@@ -4,11 +4,12 @@ README.md has at most 900 words, docs/GUARANTEES.md at most 6,000, and docs/DECI
 form. Each file that a document names must be there, and each heading to which it links. GUARANTEES.md must have each
 promise of the crate `rtgs_promises` with its first sentences, and no other, and in the table on top with its number and
 how many files have to be judged; the functions, clauses and types that it names must stand in the list that
-`bin/contracts` makes, or else in the code. SPECIFICATION.md must have the refusals as the code has them; what
-bin/tables writes into other documents must be there; and the day in OPERATORS.md has commands and refusals as
-SPECIFICATION.md lists them. Each number must be one of a constant, of a refusal, or of another script or test
-(bin/lib/stated.py); measures stand in COSTS.md alone, in sections that name what measured them. No text has the words
-that CONTRIBUTING.md lists as not to be used, except for those that bin/lib/words_to_do.txt counts.
+`bin/contracts` makes, or else in the code. The documents that name the program's version, or its kit, must name those
+that it tells itself. SPECIFICATION.md must have the refusals as the code has them; what bin/tables writes into other
+documents must be there; and the day in OPERATORS.md has commands and refusals as SPECIFICATION.md lists them. Each
+number must be one of a constant, of a refusal, or of another script or test (bin/lib/stated.py); measures stand in
+COSTS.md alone, in sections that name what measured them. No text has the words that CONTRIBUTING.md lists as not to be
+used, except for those that bin/lib/words_to_do.txt counts.
 
 Of each file of evidence it says whether it is of the tree that is checked out. README.md and GUARANTEES.md may name a
 file of evidence only if it is, or its lines are what its script makes of the tests of this tree; beside that they name
@@ -22,7 +23,7 @@ import re
 
 import kit
 from lib import contracts as listing
-from lib import evidence, findings, stated, tables, words
+from lib import evidence, findings, stated, tables, unproved, words
 from lib.checks import asserted
 
 NEEDS_THE_PROGRAM = False
@@ -31,6 +32,7 @@ ENTRIES = 60
 DECISIONS, GUARANTEES, COSTS = "docs/DECISIONS.md", "docs/GUARANTEES.md", "docs/COSTS.md"
 AUDIT = "docs/audit.sql"
 SPECIFICATION, OPERATORS = "docs/SPECIFICATION.md", "docs/OPERATORS.md"
+AUDITORS, OPENAPI, MAN_PAGE = "docs/AUDITORS.md", "docs/openapi.yaml", "docs/desk.1.in"
 FORM = ["Chosen", "Because", "Instead of", "Price"]
 PROMISE = re.compile(r"((?:^///[^\n]*\n)+)// To judge it, read (?:[^\n]*\n)(?:// [^\n]*\n)*^pub fn (\w+)", re.M)
 # what stands for a name, or is made by a run
@@ -162,8 +164,8 @@ def same_promises(text, sees):
 
 # a row of the table on top of GUARANTEES.md: a promise's number, and its functions, each with a number of files
 GLANCE = re.compile(r"^\| (\d+) \| [^|]* \| (`\w+` \(\d+\)(?:, `\w+` \(\d+\))*) \|", re.M)
-JUDGED = re.compile(r"^/// \*\*Promise (\d+)\b[^\n]*\n(?:///[^\n]*\n)*// To judge it, read (?:these (\d+) files|this file)"
-                    r"[^\n]*\n(?:// [^\n]*\n)*pub fn (\w+)", re.M)
+JUDGED = re.compile(r"^/// \*\*Promise (\d+)\b[^\n]*\n(?:///[^\n]*\n)*// To judge it, read (?:these (\d+) files"
+                    r"|this file)[^\n]*\n(?:// [^\n]*\n)*pub fn (\w+)", re.M)
 
 
 def judged():
@@ -180,8 +182,8 @@ def at_a_glance(text, sees):
     sees("numbers of the promises at a glance", [int(it) for it, _ in rows], list(range(1, len(rows) + 1)))
     found = {name: (int(number), int(files)) for number, functions in rows
              for name, files in re.findall(r"`(\w+)` \((\d+)\)", functions)}
-    wanted = judged()
-    sees("promises that have a list of files", sorted(wanted), sorted(re.search(r"`(\w+)`", it)[1] for it in promises()))
+    wanted, named = judged(), [re.search(r"`(\w+)`", it)[1] for it in promises()]
+    sees("promises that have a list of files", sorted(wanted), sorted(named))
     for name in sorted({*found, *wanted}):
         sees(f"number and files of {name} at a glance", found.get(name), wanted.get(name))
 
@@ -343,6 +345,27 @@ def refusals_as_specified(text, sees):
     sees("statuses of replies", {it: replies.get(it, int(told[2])) for it in wanted}, wanted)
 
 
+# what `--version` says: the program's version, that of its tables, and the kit
+VERSION = re.compile(r'^ +"([\d.]+), tables (\d+), ([^",]+), commit ', re.M)
+
+
+def versions(sees):
+    """Each document that names the program's version, or its kit, names what the program itself says."""
+    program, tables_are, kit_is = VERSION.search(read(f"crates/{unproved.CRATE}/{unproved.VERSION}")).groups()
+    sees("the version of the tables that the program tells", tables_are, str(stated.constants()["version"]))
+    newest = re.search(r"^## (.*)$", read("CHANGELOG.md"), re.M)
+    newest = newest[1].partition(", commit ")[0]
+    sees("the newest version in CHANGELOG.md", newest, f"{program}, tables version {tables_are}")
+    sees(f"versions in {OPENAPI}", re.findall(r"^  version: (.*)$", read(OPENAPI), re.M), [program])
+    shown = re.findall(r"^    desk (\d.*)$", read(OPERATORS), re.M)
+    sees(f"versions that {OPERATORS} shows", shown, [f"{program}, tables {tables_are}"])
+    # (bin/install takes it from the program)
+    titled = re.findall(r'^\.TH .*"(\S*)" "User Commands"$', read(MAN_PAGE), re.M)
+    sees(f"the version of {MAN_PAGE}", titled, ["@VERSION@"])
+    for name in ("README.md", AUDITORS):
+        sees(f"kits that {name} names", set(re.findall(r"`(rattle-kit-[^`]*)`", read(name))), {kit_is})
+
+
 def made_tables(sees):
     """The program explains each refusal, in the order of their numbers; and the tables of documents are those made."""
     heads = [f"{number:02} {of[0]}" for number, of in sorted(stated.refusals().items())]
@@ -443,6 +466,7 @@ def run(_given, report):
     for name in ("README.md", GUARANTEES):
         names(name, read(name), report.sees)
     refusals_as_specified(read(SPECIFICATION), report.sees)
+    versions(report.sees)
     made_tables(report.sees)
     day_of_commands(read(OPERATORS), read(SPECIFICATION), report.sees)
     queries(read(AUDIT), report.sees)

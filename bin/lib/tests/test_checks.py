@@ -184,6 +184,19 @@ class Documents(unittest.TestCase):
             self.assertIn(f"number and files of {name} at a glance", self.at_a_glance(good.replace(old, new)))
         self.assertIn("numbers of the promises at a glance", self.at_a_glance(good.replace("| 2 |", "| 3 |")))
 
+    def test_the_version_is_what_the_program_tells(self):
+        self.assertEqual(self.found(documents.versions), [])
+        for name, old, what in (("CHANGELOG.md", r"(?m)^## \d", "the newest version in CHANGELOG.md"),
+                                ("docs/openapi.yaml", r"(?m)^  version: \d", "versions in docs/openapi.yaml"),
+                                ("docs/OPERATORS.md", r"(?m)^    desk \d", "versions that docs/OPERATORS.md shows"),
+                                ("docs/desk.1.in", "@VERSION@", "the version of docs/desk.1.in"),
+                                ("README.md", "`rattle-kit-", "kits that README.md names")):
+            changed = re.sub(old, lambda m: f"{m[0]}9", stated.content(f"{documents.kit.TOP}/{name}"), count=1)
+            real = documents.read
+            found = self.found(documents.versions, read=lambda it, name=name, changed=changed, real=real:
+                               changed if it == name else real(it))
+            self.assertEqual(found, [what])
+
     def test_the_lists_of_files_are_counted(self):
         found = documents.judged()
         self.assertEqual(sorted(number for number, _ in found.values())[::len(found) - 1], [1, 16])
