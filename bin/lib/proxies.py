@@ -34,6 +34,8 @@ def installed():
 
 def version():
     """Returns the line in which nginx names its version."""
+    if not installed():
+        raise desks.Broken("nginx is not installed: nothing was tried")
     return subprocess.run([installed(), "-v"], capture_output=True, text=True, check=False).stderr.strip()
 
 

@@ -149,8 +149,6 @@ def waits(it):
 
 
 def run(_given, report):
-    if not proxies.installed():
-        raise desks.Broken("nginx is not installed: nothing was tried")
     report.finds(proxies.version())
     with desks.room() as folder:
         handbook(folder, report)

@@ -19,10 +19,12 @@ class Configuration(unittest.TestCase):
         return proxies.Nginx("/a/room", 8081, seconds).texts()
 
     def test_it_is_filled_in_whole(self):
-        nginx = proxies.Nginx("/a/room", 8081, 2)
+        # (a port that is free may hold the digits of one that is to be replaced)
+        with mock.patch.object(desks, "free_port", lambda: 44343):
+            nginx = proxies.Nginx("/a/room", 8081, 2)
         text = nginx.texts()["desk.conf"]
         for own in ("desk.example", "/etc/desk", "8080", "443", "60s"):
-            self.assertNotIn(own, re.sub(r"#.*", "", text), own)
+            self.assertNotRegex(re.sub(r"#.*", "", text), rf"(?<!\d){re.escape(own)}(?!\d)")
         self.assertIn(f"listen 127.0.0.1:{nginx.port} ssl;", text)
         self.assertIn("proxy_pass http://127.0.0.1:8081;", text)
         self.assertIn("proxy_read_timeout 2s;", text)
@@ -39,6 +41,11 @@ class Configuration(unittest.TestCase):
     def test_what_is_not_there_once_is_told(self):
         self.assertRaisesRegex(desks.Broken, "0 times", proxies.filled, "a", {"b": "c"})
         self.assertRaisesRegex(desks.Broken, "2 times", proxies.filled, "b b", {"b": "c"})
+
+    def test_a_place_that_is_left_is_found_beside_such_a_port(self):
+        with mock.patch.object(desks, "free_port", lambda: 44343), \
+                mock.patch.object(proxies, "filled", lambda text, _: text):
+            self.assertRaises(AssertionError, self.test_it_is_filled_in_whole)
 
     def test_without_nginx_the_check_says_so_and_does_not_pass(self):
         with mock.patch.object(proxies, "installed", lambda: None), \
