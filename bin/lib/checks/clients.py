@@ -163,13 +163,13 @@ def follow(part, report):
 
 
 def run(given, report):
-    ways = (False, True) if proxies.installed() else (False,)
+    ways = (False, True) if proxies.Nginx.installed() else (False,)
     for name in [it for it in CLIENTS if given.only in (None, it)]:
         report.sees(f"{name} is installed", bool(shutil.which(name)), True)
         for is_by_nginx in ways if shutil.which(name) else ():
             with desks.room() as folder:
                 follow(Day(name, is_by_nginx, folder, report), report)
-    if not proxies.installed():
+    if not proxies.Nginx.installed():
         report.finds("nginx is not installed: no client went through it")
     if not given.only:
         with desks.room() as folder:

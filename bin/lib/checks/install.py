@@ -2,15 +2,17 @@
 
 The installed program must run. groff must read the man page without a warning, and the page must name each command and
 option. The completion of bash must complete commands, options and files; those of zsh and fish are read by their shells
-where these are installed. systemd must find no fault with the unit, where it stands. Needs `groff`, `bash` and
-`systemd-analyze`.
+where these are installed. systemd must find no fault with the unit, where it stands. Under the unit's umask the program
+must make files that their user alone may read. Needs `groff`, `bash` and `systemd-analyze`.
 
 Shows: that all that belongs to the program is installed, and that groff, the shells and systemd read it without
-complaint.
+complaint; and that what the program makes under the unit's umask its user alone may read.
 Cannot show: that the unit starts on a machine of its own.
 """
 import os
+import re
 import shutil
+import stat
 import subprocess
 
 from lib import desks, helps, installing
@@ -74,6 +76,44 @@ def unit(prefix, sees):
     sees("systemd-analyze verify", verified, (0, ""))
 
 
+def setting(text, name):
+    """Returns the value of a setting that a unit has once."""
+    found = re.findall(rf"^{name}=(.*)$", text, re.M)
+    if len(found) != 1:
+        raise desks.Broken(f"the unit has {name} {len(found)} times")
+    return found[0]
+
+
+def modes_made(text, folder, makes):
+    """Has a book made in the folder of the unit with this text, as the unit would, and returns the mode of the folder
+    and of each file. What makes the book is given its name."""
+    state = f"{folder}/state"
+    os.mkdir(state)
+    os.chmod(state, int(setting(text, "StateDirectoryMode"), 8))
+    before = os.umask(int(setting(text, "UMask"), 8))
+    try:
+        makes(f"{state}/bank.desk")
+    finally:
+        os.umask(before)
+    paths = {"": state, **{it: f"{state}/{it}" for it in sorted(os.listdir(state))}}
+    return {name: f"{stat.S_IMODE(os.stat(path).st_mode):o}" for name, path in paths.items()}
+
+
+def serves(book):
+    """Makes a book, and serves an order over it, after which the server is killed: its log is left."""
+    desks.new_book(book, desks.KEYS, 150)
+    with desks.Server(book, 2) as server:
+        server.asked(desks.order(desks.KEYS["ALFA"], "BETA", 1))
+        server.kill()
+
+
+def modes(prefix, folder, sees):
+    """What the service makes, its user alone may read."""
+    found = modes_made(desks.content(f"{prefix}/{installing.UNIT}").decode(), folder, serves)
+    sees("modes of what the service makes", found,
+         {"": "700", **dict.fromkeys(("bank.desk", "bank.desk-wal", "bank.desk.lock"), "600")})
+
+
 def run(_given, report):
     with desks.room() as folder:
         prefix, paths = f"{folder}/usr", []
@@ -84,6 +124,7 @@ def run(_given, report):
         man_page(prefix, helps.program(desks.desk), sees)
         completions(prefix, folder, sees)
         unit(prefix, sees)
+        modes(prefix, folder, sees)
         again = []
         installing.install(prefix, again.append)
         sees("a second installation", again, paths)

@@ -249,6 +249,24 @@ class Installing(unittest.TestCase):
         self.assertNotIn("@PREFIX@", unit)
         self.assertRaises(desks.Broken, installing.with_prefix, "@PREFIX@", "/a b")
 
+    def modes(self, text):
+        def makes(path):
+            with open(path, "w", encoding="utf-8"):
+                pass
+
+        with desks.room() as folder:
+            return install.modes_made(text, folder, makes)
+
+    def test_what_the_unit_makes_its_user_alone_may_read_and_another_umask_is_found(self):
+        self.installed()
+        unit = desks.content(f"{self.prefix}/{installing.UNIT}").decode()
+        self.assertEqual(self.modes(unit), {"": "700", "bank.desk": "600"})
+        open_files, open_folder = unit.replace("UMask=0077", "UMask=0022"), unit.replace("Mode=0700", "Mode=0755")
+        self.assertEqual(self.modes(open_files), {"": "700", "bank.desk": "644"})
+        self.assertEqual(self.modes(open_folder), {"": "755", "bank.desk": "600"})
+        for line in ("UMask=0077\n", "StateDirectoryMode=0700\n"):
+            self.assertRaises(desks.Broken, self.modes, unit.replace(line, ""))
+
     @needs("systemd-analyze")
     def test_systemd_finds_no_fault_with_the_unit(self):
         self.installed()
@@ -278,7 +296,8 @@ class Deployed(unittest.TestCase):
         # (what only opens or closes a part, and what says again what stands in the line that opens it)
         self.assertEqual(self.reasons("desk.service", r"\[\w+\]|(Description|Documentation)=.*"), [])
         self.assertEqual(self.reasons("nginx.conf", r"\}|(server|location) .*\{|default_type .*|return .*"), [])
-        self.assertEqual(self.reasons("Caddyfile", r"\}|.*\{|max_size .*|header .*|respond .*"), [])
+        ends = r"\}|.*\{|max_size .*|max_buffer_size .*|header .*|respond .*|import way"
+        self.assertEqual(self.reasons("Caddyfile", ends), [])
 
     def test_braces_are_balanced(self):
         for name in ("nginx.conf", "Caddyfile"):

@@ -15,23 +15,25 @@ def quiet():
 
 
 class Configuration(unittest.TestCase):
-    def texts(self, seconds=60):
-        return proxies.Nginx("/a/room", 8081, seconds).texts()
-
-    def test_it_is_filled_in_whole(self):
+    def made(self, kind, seconds=60):
         # (a port that is free may hold the digits of one that is to be replaced)
         with mock.patch.object(desks, "free_port", lambda: 44343):
-            nginx = proxies.Nginx("/a/room", 8081, 2)
-        text = nginx.texts()["desk.conf"]
-        for own in ("desk.example", "/etc/desk", "8080", "443", "60s"):
-            self.assertNotRegex(re.sub(r"#.*", "", text), rf"(?<!\d){re.escape(own)}(?!\d)")
-        self.assertIn(f"listen 127.0.0.1:{nginx.port} ssl;", text)
-        self.assertIn("proxy_pass http://127.0.0.1:8081;", text)
-        self.assertIn("proxy_read_timeout 2s;", text)
-        self.assertIn("ssl_certificate /a/room/nginx/certificate.pem;", text)
+            return kind("/a/room", 8081, seconds)
 
-    def test_each_line_ends_and_braces_are_balanced(self):
-        for name, text in self.texts().items():
+    def test_they_are_filled_in_whole(self):
+        for kind in proxies.ALL:
+            text = self.made(kind, 2).texts()["desk.conf"]
+            for own in ("desk.example", "/etc/desk", "8080", "443", "60s"):
+                self.assertNotRegex(re.sub(r"#.*", "", text), rf"(?<!\d){re.escape(own)}(?!\d)")
+            for it in ("127.0.0.1:44343", "127.0.0.1:8081", "timeout 2s", f"/a/room/{kind.NAME}/certificate.pem"):
+                self.assertEqual(text.count(it), 1, it)
+
+    def test_a_place_that_is_left_is_found_beside_such_a_port(self):
+        with mock.patch.object(proxies, "filled", lambda text, _: text):
+            self.assertRaises(AssertionError, self.test_they_are_filled_in_whole)
+
+    def test_each_line_of_nginx_ends_and_braces_are_balanced(self):
+        for name, text in self.made(proxies.Nginx).texts().items():
             bare = re.sub(r"^\s*#.*$|'[^']*'", "", text, flags=re.M)
             self.assertEqual(bare.count("{"), bare.count("}"), name)
             for line in filter(None, map(str.strip, bare.splitlines())):
@@ -42,15 +44,47 @@ class Configuration(unittest.TestCase):
         self.assertRaisesRegex(desks.Broken, "0 times", proxies.filled, "a", {"b": "c"})
         self.assertRaisesRegex(desks.Broken, "2 times", proxies.filled, "b b", {"b": "c"})
 
-    def test_a_place_that_is_left_is_found_beside_such_a_port(self):
-        with mock.patch.object(desks, "free_port", lambda: 44343), \
-                mock.patch.object(proxies, "filled", lambda text, _: text):
-            self.assertRaises(AssertionError, self.test_it_is_filled_in_whole)
+    def test_without_a_proxy_the_check_says_so_and_does_not_pass(self):
+        for name in ("nginx", "caddy"):
+            with mock.patch.object(desks, "installed", lambda tool, name=name: None if tool == name else "/bin/true"), \
+                    self.assertRaisesRegex(desks.Broken, f"^{name} is not installed"):
+                proxy.run(None, quiet())
+            self.assertIn(name, proxy.NEEDS)
 
-    def test_without_nginx_the_check_says_so_and_does_not_pass(self):
-        with mock.patch.object(proxies, "installed", lambda: None), \
-                self.assertRaisesRegex(desks.Broken, "^nginx is not installed"):
-            proxy.run(None, quiet())
+    def test_edits_that_open_a_route_are_of_the_lines_that_close_it(self):
+        self.assertEqual(set(proxy.OPENING), {it.NAME for it in proxies.ALL})
+        for kind in proxies.ALL:
+            for edits in proxy.OPENING[kind.NAME]:
+                self.assertNotEqual(proxies.filled(kind.deployed(), edits), kind.deployed())
+
+    def test_paths_are_closed_in_both_cases_and_with_and_without_escapes(self):
+        for it in ("/desk", "/desk/", "/DESK/", "//desk/", "/%64esk/", "/x/../desk/", "/desk%2f"):
+            self.assertIn(it, proxy.SPELLINGS)
+
+    def test_an_opened_route_is_told_and_a_closed_one_is_not(self):
+        for reply, wrong in (((403, proxy.JSON, proxy.NO_KEY), 0), ((200, proxy.JSON, "{}"), len(proxy.SPELLINGS) + 1)):
+            report, it = quiet(), mock.Mock()
+            it.sees, it.sent.return_value = report.sees, reply
+            it.server.asked.return_value = b'{"phase":"OPEN"}'
+            proxy.closed(it)
+            self.assertEqual(report.wrong, wrong)
+
+    def test_longer_bodies_are_those_that_caddy_refuses(self):
+        (longer,) = re.findall(r"@too_long header_regexp Content-Length (\S+)", proxies.Caddy.deployed())
+        for length in (0, 1, 999, 9999, 10000, 59999, 65000, 65499, 65529, 65535, 65536, 65537, 65539, 65540, 65600,
+                       66000, 70000, 99999, 100000, 655360, 10**12):
+            self.assertEqual(bool(re.search(longer, str(length))), length > proxy.LONGEST, length)
+
+    def test_caddy_has_the_names_of_buffers_that_its_version_knows(self):
+        text = proxies.Caddy.deployed()
+        for version, newer in (("2.6.2", False), ("v2.7.6 h1:a", True), ("v2.10.0", True), ("v3.0", True)):
+            with mock.patch.object(proxies.Caddy, "version", classmethod(lambda _, it=version: f"caddy: {it}")):
+                caddy = self.made(proxies.Caddy)
+                self.assertEqual((caddy.takes_chunks(), caddy.env().get("DESK_BUFFERS")),
+                                 (newer, "buffers" if newer else None))
+        self.assertIn("\n(buffers) {", text)
+        self.assertIn("\n(buffers_of_2_6) {", text)
+        self.assertIn("import {$DESK_BUFFERS:buffers_of_2_6}", text)
 
     def test_the_banks_handbook_is_sent_to_the_proxy_alone(self):
         text, many = proxy.handbooks.requests_of_banks()
@@ -59,7 +93,8 @@ class Configuration(unittest.TestCase):
 
     def test_the_limit_of_a_body_is_that_of_the_code(self):
         self.assertEqual(proxy.LONGEST, stated.constants()["body"])
-        self.assertIn(f"client_max_body_size {proxy.LONGEST // 1024}k;", self.texts()["desk.conf"])
+        self.assertIn(f"client_max_body_size {proxy.LONGEST // 1024}k;", proxies.Nginx.deployed())
+        self.assertIn(f"max_size {proxy.LONGEST // 1024}KiB", proxies.Caddy.deployed())
 
 
 class Echo:
