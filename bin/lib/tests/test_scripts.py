@@ -1,5 +1,6 @@
 """The scripts as they are called, in a tree that has them, with a stand-in for the kit."""
 import ast
+import json
 import os
 import re
 import subprocess
@@ -83,13 +84,17 @@ class Kit(Scripts):
         self.assertRegex(over, r"^over commit \w{40}, crates \w{12}, bin \w{12}, by a kit of the tests$")
         self.assertRegex(machine, r"^\d+ seconds on 2 processors, ended .*: all as it must be$")
         self.assertEqual((lines[1][:6], table, last), ("rt: ok", lines[2], "2 passed, 0 failed"))
-        self.assertIn("the gate: 0.0 lane-minutes, within the limit of 260", lines)
+        # (a busy machine takes some minutes)
+        for it in (r"low( +\d\.\d){5} +0 +-", r"the gate: \d\.\d processor minutes, .*",
+                   r"the gate: \d\.\d lane-minutes, within the limit of 250",
+                   r"its mutants: \d\.\d lane-minutes, within the limit of 42"):
+            self.assertRegex(ran.stdout, f"\n{it}\n")
 
     def test_a_gate_that_kept_a_proof_is_not_compared_with_the_limit(self):
         found = [it for it in self.run_script("gate-times").stdout.splitlines() if "lane-minutes, " in it]
         self.assertEqual(len(found), 2)
         for it in found:
-            self.assertRegex(it, "0.0 lane-minutes, the rest was kept from earlier runs, so the limit of .* is not")
+            self.assertRegex(it, r"\d\.\d lane-minutes, the rest was kept from earlier runs, so the limit of .* is not")
 
     def test_the_gate_of_some_crates_writes_none(self):
         self.commit()
@@ -113,6 +118,24 @@ class Kit(Scripts):
         ran = self.run_script("gate-times", "--join", *paths)
         self.assertEqual((ran.returncode, ran.stdout), (1, ""))
         self.assertIn("is of a tree that no commit has", ran.stderr)
+
+    def test_runs_are_put_together_where_a_crate_above_changed_since(self):
+        self.write("crates.txt", "low:\nrtgs_cli_arguments:\ndesk: low rtgs_cli_arguments\n")
+        for name in ("low/src/lib.rt", "desk/src/main.rt", "low/src/more.rt"):
+            self.write(f"crates/{name}", "// another text")
+            self.commit()
+            self.assertEqual(self.run_script("gate-times").returncode, 0)
+        first, second, third = sorted(os.listdir(f"{self.top}/out/gate"))
+        ran = self.joined(second, third)
+        self.assertEqual(ran.returncode, 0, ran.stderr)
+        self.assertIn(" tasks count by it; changed since, or one below: desk low\n", ran.stdout)
+        with open(f"{self.top}/out/gate/{first}", encoding="utf-8") as it:
+            self.assertEqual(sorted(json.loads(it.readline())["crates"]), ["desk", "low", "rtgs_cli_arguments"])
+        ran = self.joined(first, second)
+        self.assertIn("changed since, or one below: desk\n", ran.stdout)
+
+    def joined(self, *names):
+        return self.run_script("gate-times", "--join", *(f"{self.top}/out/gate/{it}" for it in names))
 
     def test_edits_are_tried_over_what_was_kept_and_then_from_nothing(self):
         self.edits()
