@@ -97,27 +97,37 @@ def pairs(old, new):
         yield key[1], None, new[key]
 
 
+def leading_elsewhere(places, now, old, new):
+    """Yields which of these places have a definition that is otherwise in the new tree, and where their names lead now.
+    A definition that is no longer named is the same if its text is: what named it is otherwise then."""
+    texts = {(name, new.text((file, name))) for file, name in now}
+    for file, name in places:
+        homes = [home for home, other in now if other == name]
+        is_same = (name, old.text((file, name))) in texts if homes else old.text((file, name)) == new.text((file, name))
+        if not is_same:
+            yield (file, name), (file if file in homes or not homes else homes[0], name)
+
+
 def definitions_between(changes, old, new):
     """Returns the definitions that clauses of the old tree name, or that these name in turn, and that are otherwise in
-    the new one, each with the functions whose clauses lead to it."""
+    the new one: the place of each, and where its name leads now, with the functions whose clauses lead to it."""
     found = collections.defaultdict(list)
     for it in (it for it in changes if it.old and it.new):
-        text = " ".join(clause.text for clause in it.old.clauses)
-        for place in old.reached(os_path(old, it.old.file), text):
-            if old.text(place) != new.text(place):
-                found[place].append(it.name)
+        gone = [*it.lost, *(before for before, _ in it.changed)]
+        kept = " ".join(clause.text for clause in it.old.clauses if clause not in gone)
+        places, now = old.reached(it.old.file, kept), new.reached(it.new.file, kept)
+        rest = old.reached(it.old.file, " ".join(clause.text for clause in gone)) - places
+        for both in [*leading_elsewhere(places, now, old, new), *leading_elsewhere(rest, (), old, new)]:
+            found[both].append(it.name)
     return found
 
 
-def os_path(tree, file):
-    """Returns the path of a file within its tree."""
-    return file[len(tree.top) + 1 :]
-
-
-def lines_of_definition(place, names, old, new):
+def lines_of_definition(places, names, old, new):
     """Yields how a definition changed, and whose clauses lead to it."""
-    before, after = old.text(place), new.text(place)
+    place, now = places
+    before, after = old.text(place), new.text(now)
     yield f"{'gone' if after is None else 'changed'}: {place[1]} ({place[0]})"
+    yield from [f"    its name leads now to {now[0]}"] if now != place else []
     more = f", and {len(names) - SHOWN} more" if len(names) > SHOWN else ""
     yield f"    clauses of {', '.join(sorted(names)[:SHOWN])}{more}"
     lines = difflib.unified_diff(before.splitlines(), (after or "").splitlines(), n=1, lineterm="")

@@ -103,7 +103,7 @@ class Definitions:
     """The definitions of a tree."""
 
     def __init__(self, top):
-        self.top, self.files = top, {}
+        self.top, self.files, self.inner = top, {}, {}
         for kind in ("specs/**/*.antt", "src/**/*.rt"):
             for path in glob.glob(f"{top}/crates/*/{kind}", recursive=True):
                 self.files[os.path.relpath(path, top)] = File(top, path)
@@ -128,20 +128,27 @@ class Definitions:
         return None
 
     def named(self, file, text):
-        """Returns the places of the definitions that a text of a file names."""
+        """Returns the places of the definitions that a text of a file of the tree names."""
         words, it = words_of(text), self.files[file]
         places = [[(file, word)] for word in words & set(it.has)] + [it.names[word] for word in words & set(it.names)]
         for word in words & set(it.files):
             home = it.files[word]
-            places += [[(home, name)] for name in words & {*self.files[home].has, *self.files[home].names}]
+            names = set(re.findall(rf"(?<!\w){word}\.([^\s(){{}},;.]+)", text))
+            places += [[(home, name)] for name in names & {*self.files[home].has, *self.files[home].names}]
         return {place for place in map(self.home, places) if place}
 
-    def reached(self, file, text):
-        """Returns the places of all definitions that a text names, and that these name in turn."""
-        found, left = set(), [*self.named(file, text)]
+    def named_by(self, place):
+        """Returns the places of the definitions that a definition names."""
+        if place not in self.inner:
+            self.inner[place] = self.named(place[0], self.files[place[0]].has[place[1]])
+        return self.inner[place]
+
+    def reached(self, path, text):
+        """Returns the places of all definitions that a text of a file names, and that these name in turn."""
+        found, left = set(), [*self.named(os.path.relpath(path, self.top), text)]
         while left:
             place = left.pop()
             if place not in found:
                 found.add(place)
-                left += self.named(place[0], self.files[place[0]].has[place[1]])
+                left += self.named_by(place)
         return found

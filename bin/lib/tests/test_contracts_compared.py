@@ -155,6 +155,15 @@ class Compared(unittest.TestCase):
                  "specs/Rules.antt": RULES.replace("Limits", "Most")}
         self.assertEqual(self.compared(moved), ([[], [], []], True))
 
+    def test_a_name_that_leads_to_another_definition_is_told(self):
+        other = "abbrev pub IsRight : ℕ → Type 0\nIsRight n = n ≤ 9\n"
+        told, is_kept = self.compared({"src/own.rt": ONCE.replace("Rules.{IsRight}", "Other.{IsRight}"),
+                                       "specs/Other.antt": other})
+        self.assertEqual((told[:2], is_kept), ([[], []], True))
+        self.assertEqual(told[2][:2], ["changed: IsRight (crates/it/specs/Rules.antt)",
+                                       "    its name leads now to crates/it/specs/Other.antt"])
+        self.assertIn("    +IsRight n = n ≤ 9", told[2])
+
     def test_a_definition_that_is_gone_is_told(self):
         told, _ = self.compared({"specs/Rules.antt": RULES.replace("few : new ≤ most", "few : new ≤ 9"),
                                  "specs/Limits.antt": ""})
