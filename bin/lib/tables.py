@@ -1,4 +1,7 @@
 """The tables that documents take from the code. Each stands between two lines of comments, which name it."""
+import glob
+import importlib.machinery
+import importlib.util
 import re
 
 import kit
@@ -14,8 +17,33 @@ def refusals():
     return "\n".join(["| refusal | what to do |", "|---|---|", *rows])
 
 
+def script(name):
+    """Returns a script of bin/ as a module."""
+    loader = importlib.machinery.SourceFileLoader(name, f"{kit.TOP}/bin/{name}")
+    made = importlib.util.module_from_spec(importlib.util.spec_from_loader(name, loader))
+    loader.exec_module(made)
+    return made
+
+
+def rounded(number):
+    """Returns a number of which two digits are told, so that it seldom changes."""
+    return f"{round(number, 2 - len(str(number))):,}"
+
+
+def sizes():
+    """Returns how many lines there are of each kind of file, and of what the headline reaches."""
+    counting = script("sizes")
+    files = {kind: glob.glob(f"{counting.CRATES}/*/{folder}/**/*.{end}", recursive=True)
+             for kind, (folder, end) in counting.KINDS.items()}
+    found = {kind: [it for it in of if not counting.is_of_tests(it)] for kind, of in files.items()}
+    found["code of tests"] = [it for it in files["code"] if counting.is_of_tests(it)]
+    found["definitions that the headline reaches"] = [it for of in counting.headline().values() for it in of]
+    rows = [f"| {what} | {rounded(counting.lines_of(of))} |" for what, of in found.items()]
+    return "\n".join(["| what | lines, to two digits |", "|---|---|", *rows])
+
+
 # which documents have which tables, and what makes each
-TABLES = {"docs/OPERATORS.md": {"refusals": refusals}}
+TABLES = {"docs/OPERATORS.md": {"refusals": refusals}, "docs/AUDITORS.md": {"sizes": sizes}}
 
 
 def written(name, text):

@@ -272,6 +272,8 @@ UNIT = " (?:more )?(?:" + "|".join((
     "seconds?", "minutes?", "milliseconds", "ms", "µs", "cents?", "bytes", "KiB", "KB", "MB", "GB", "rows?", "orders?",
     "participants", "banks", "characters?", "(?:header )?fields?", "digits?", "tables", "levels", "files", "views",
     "times", "lines", "columns", "lane-minutes", "functions", "processors", "connections?", "postings")) + r")\b"
+# a table that bin/tables writes, which is compared as a whole
+MADE = re.compile(r"<!-- (\w+): written by bin/tables -->.*?<!-- end of \1 -->", re.S)
 # the statuses of a proxy's own replies, which bin/checks proxy and bin/checks clients meet
 OF_PROXIES = {502, 504}
 NAMED = " [A-Z][a-z]+[A-Z]\\w+"
@@ -319,7 +321,7 @@ def queries(text, sees):
 def numbers(name, text, sees):
     """Each number of a document is stated by the code, or is that of a refusal or a status."""
     text, refusals = without_stated(name, text, sees), stated.refusals()
-    forms = (GLANCE, OTHER) if name == GUARANTEES else (OTHER,)
+    forms = (MADE, GLANCE, OTHER) if name == GUARANTEES else (MADE, OTHER)
     text = blanked(text, [it.span() for form in forms for it in form.finditer(text)])
     for found in NUMBER.finditer(text):
         line = text.count("\n", 0, found.start()) + 1

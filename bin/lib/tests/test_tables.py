@@ -1,23 +1,12 @@
 """The tables that documents take from the code, and the counts of lines."""
-import importlib.machinery
-import importlib.util
 import os
 import re
 import unittest
 from unittest import mock
 
-import kit
 from lib import desks, stated, tables
 
 BEGIN, END = tables.BEGIN.format("few"), tables.END.format("few")
-
-
-def sizes():
-    """Returns bin/sizes as a module."""
-    loader = importlib.machinery.SourceFileLoader("sizes", f"{kit.TOP}/bin/sizes")
-    made = importlib.util.module_from_spec(importlib.util.spec_from_loader("sizes", loader))
-    loader.exec_module(made)
-    return made
 
 
 class Tables(unittest.TestCase):
@@ -42,8 +31,19 @@ class Tables(unittest.TestCase):
 
 
 class Sizes(unittest.TestCase):
+    def test_two_digits_of_a_number_are_told(self):
+        told = [tables.rounded(it) for it in (7, 91, 149, 1843, 26766, 99999)]
+        self.assertEqual(told, ["7", "91", "150", "1,800", "27,000", "100,000"])
+
+    def test_the_table_has_a_row_for_each_kind_of_file(self):
+        rows = dict(re.findall(r"^\| ([a-z ]+) \| ([\d,]+) \|$", tables.sizes(), re.M))
+        self.assertEqual(list(rows)[:3], ["code", "definitions", "proofs"])
+        self.assertEqual(len(rows), 5)
+        lines = {what: int(number.replace(",", "")) for what, number in rows.items()}
+        self.assertLess(lines["definitions that the headline reaches"], lines["definitions"])
+
     def test_the_headline_has_the_files_that_its_comment_counts(self):
-        script = sizes()
+        script = tables.script("sizes")
         files = [it for listed in script.headline().values() for it in listed]
         counted = re.search(r"read these (\d+) files:[^\n]*\n(?:// [^\n]*\n)*pub fn make_and_live\b",
                             stated.content(f"{script.CRATES}/rtgs_promises/src/headline.rt"))
@@ -51,7 +51,7 @@ class Sizes(unittest.TestCase):
         self.assertTrue(all(os.path.isfile(it) for it in files))
 
     def test_lines_are_counted_and_crates_of_tests_known(self):
-        script = sizes()
+        script = tables.script("sizes")
         with desks.room() as folder:
             for name, text in (("a", "1\n2\n"), ("b", "3\n")):
                 with open(f"{folder}/{name}", "w", encoding="utf-8") as it:
