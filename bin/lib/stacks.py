@@ -21,9 +21,13 @@ def of_commit(commit):
     if folders is None or text is None:
         return None
     names = {name: words.split()[2] for words, _, name in (it.partition("\t") for it in folders.splitlines())}
+    return {name: Crate(names.get(name, ""), line) for name, line in named(text).items()}
+
+
+def named(text):
+    """Returns the lines of a text of crates.txt, by the names of the crates."""
     lines = [" ".join(it.partition("#")[0].split()) for it in text.splitlines()]
-    found = {it.partition(":")[0].split()[0]: it for it in lines if it}
-    return {name: Crate(names.get(name, ""), line) for name, line in found.items()}
+    return {it.partition(":")[0].split()[0]: it for it in lines if it}
 
 
 def of_tree(tree):

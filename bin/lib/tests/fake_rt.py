@@ -28,21 +28,30 @@ class Crate:
 
 
 def crates_below(folder):
-    top = folder.split("/crates")[0]
+    top, _, name = folder.partition("/crates")
     lower = [Crate(top, "low", []), Crate(top, "rtgs_cli_arguments", [])]
-    return [*lower, Crate(top, "desk", lower)]
+    return [*lower, Crate(top, name[1:] or "desk", lower)]
 
 
 def kit_sources(names):
     return [word for it in dict.fromkeys(names) for word in ("--lib", f"{it}:=lib.rt")]
 
 
+KIT = os.path.dirname(os.path.dirname(os.path.realpath(__file__)))
 rtlib = types.SimpleNamespace(crates_below=crates_below, guarded=lambda: [], lock=lambda crates: [],
-                              kit_sources=kit_sources, KIT=os.path.dirname(os.path.dirname(os.path.realpath(__file__))))
+                              kit_sources=kit_sources, KIT=KIT, RUNNER=f"{KIT}/bin/rattle-test")
 
 
 def processors():
     return 2
+
+
+def free():
+    return int(os.environ.get("FREE_MEMORY", "10000000000"))
+
+
+def drop_to_nobody():
+    return []
 
 
 def need(_crate):
