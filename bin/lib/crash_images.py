@@ -3,11 +3,12 @@
 Of each file that is what its last sync made safe, and of what came later any part, in any order. A write may be there
 whole, or some of its sectors, or a part of one of them, or nothing of it. Past the length that is safe the file may
 hold anything. The length is any of those that it had or lay between. A name may be missing where no sync of the folder
-came after it was made.
+came after it was made. What a sync of a file that failed was to make safe is not there, and no later sync makes it
+safe: systems take it for written.
 """
 import random
 
-from lib.watched import CUT, FOLDER, MADE, SYNC, WRITE
+from lib.watched import CUT, FAILED, FOLDER, MADE, SYNC, WRITE
 
 SECTOR = 512
 # what may be there of a write, of a file, or of a folder
@@ -87,6 +88,8 @@ class History:
             self.swallowed.clear()
         elif event.kind == SYNC:
             self.files[event.name].sync()
+        elif event.kind == FAILED and event.data == SYNC.encode() and event.name in self.files:
+            self.files[event.name].later.clear()
 
     def seen(self):
         """Returns the bytes of each file as reads give them."""
@@ -183,6 +186,20 @@ class Chance:
         self.counts[SHORTER] += length < seen
         self.counts[LONGER] += length > seen
         return bytes(data[:length])
+
+
+class Nothing:
+    """Leaves what is safe, and nothing else."""
+
+    @staticmethod
+    def loses():
+        """Returns whether a name is missing that is not safe."""
+        return True
+
+    @staticmethod
+    def left(kept):
+        """Returns what is left of a file."""
+        return kept.safe
 
 
 class Lost:

@@ -15,7 +15,8 @@ from lib import desks, runs, watched
 BOOK = "book.desk"
 LOG = BOOK + desks.LOG
 # an answer to a command that changed the book, in what the program prints and in what the server replies
-ACTED = re.compile(rb'"answer":"(?:settled|queued|held|withdrawn)"|^[A-Z0-9-]+,(?:settled|queued|held),|'
+ACTED = re.compile(rb'"answer":"(?:settled|queued|held|withdrawn|posted|credit set|opened|resolved|cut off|closed)"|'
+                   rb"^[A-Z0-9-]+,(?:settled|queued|held),|"
                    rb"^(?:initialised|migrated|added|credit set|posted \d+|opened|cut off|closed rejected \d+|"
                    rb"resolved mark .*|withdrawn \d+)$", re.M)
 

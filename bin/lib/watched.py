@@ -10,14 +10,15 @@ import typing
 
 from lib import desks, runs
 
-# kinds of what is noted
-MADE, WRITE, CUT, SYNC, SAID, FAILED = "made", "write", "cut", "sync", "said", "failed"
+# kinds of what is noted; and, where it is asked for, how many calls of a kind there were
+MADE, WRITE, CUT, SYNC, SAID, FAILED, CALLS = "made", "write", "cut", "sync", "said", "failed", "calls"
 # the name under which the folder itself is synced
 FOLDER = "."
 
 
 class Event(typing.NamedTuple):
-    """A call that was made: its kind, the name of the file, an offset or a length, and bytes."""
+    """A call that was made: its kind, the name of the file, an offset or a length, and bytes. Of a call that failed:
+    the error and the call's kind."""
 
     kind: str
     name: str
