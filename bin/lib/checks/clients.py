@@ -2,9 +2,9 @@
 
 The day stands in bin/lib/clients/day.txt: orders, repeats, readings, a queued order that settles by a resolution, an
 order file, refusals. Each client must get the same replies, status and body. To one order the first reply is lost, and
-a proxy's 502, 503 and 504 follow: the client sends the same order again until it is answered. Then it is looked what
-curl and wget do by themselves where a reply is lost. Where nginx is installed the banks' requests go through it too,
-with the configuration of deploy/, and a reply that is lost is a 502 of nginx itself. Needs the five clients;
+a proxy's 429, 502, 503 and 504 follow: the client sends the same order again until it is answered. Then it is looked
+what curl and wget do by themselves where a reply is lost. Where nginx is installed the banks' requests go through it
+too, with the configuration of deploy/, and a reply that is lost is a 502 of nginx itself. Needs the five clients;
 `--only NAME` tries one alone.
 
 Shows: that five stock clients get the same replies, also through nginx and where a reply is lost.
@@ -34,7 +34,7 @@ CLIENTS = {
 }
 KEYS = {**desks.KEYS, "OPERATOR": desks.OPERATOR, "NOBODY": "0" * 32}
 STEP = re.compile(r"^> (\w+)(\*?) (\w+) (\S+)(?: (.*))?\n< (\d+)\n((?:(?!> ).*\n)*)", re.M)
-UNLUCKY = (relays.LOST, 502, 503, 504)
+UNLUCKY = (relays.LOST, 429, 502, 503, 504)
 # what a client does by itself where the first reply is lost: its words, how it ends, and how many connections it makes
 ALONE = (
     (("curl", "-s", "-d", "BODY"), 52, 1),

@@ -274,8 +274,8 @@ UNIT = " (?:more )?(?:" + "|".join((
     "times", "lines", "columns", "lane-minutes", "functions", "processors", "connections?", "postings")) + r")\b"
 # a table that bin/tables writes, which is compared as a whole
 MADE = re.compile(r"<!-- (\w+): written by bin/tables -->.*?<!-- end of \1 -->", re.S)
-# the statuses of a proxy's own replies, which bin/checks proxy and bin/checks clients meet
-OF_PROXIES = {502, 504}
+# the statuses of a proxy's own replies, which bin/checks limits, proxy and clients meet
+OF_PROXIES = {429, 502, 504}
 NAMED = " [A-Z][a-z]+[A-Z]\\w+"
 NUMBER = re.compile(
     rf"(?<![\w.,^-])(\d[\d,]*\d|\d)(?:\.\d+)?(?:\^\d+)?(?: (?:to|and) \d+)*({UNIT}|{NAMED})?(?![\w^])")

@@ -22,7 +22,7 @@ public class Client {
     private static final int MILLISECONDS_BETWEEN = 1000;
     private static final Duration TIME = Duration.ofSeconds(60);
     // (the request may or may not have been carried out: the same request again tells)
-    private static final Set<Integer> AGAIN = Set.of(502, 503, 504);
+    private static final Set<Integer> AGAIN = Set.of(429, 502, 503, 504);
 
     // (by itself it would first ask for another version of HTTP)
     private static final HttpClient CLIENT = HttpClient.newBuilder().version(HttpClient.Version.HTTP_1_1).build();

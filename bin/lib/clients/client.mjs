@@ -8,7 +8,7 @@ const TRIES = 8;
 const MILLISECONDS_BETWEEN = 1000;
 const MILLISECONDS = 60000;
 // (the request may or may not have been carried out: the same request again tells)
-const AGAIN = [502, 503, 504];
+const AGAIN = [429, 502, 503, 504];
 
 // The status and the body of the reply to a request, which is sent again until there is one.
 async function asked(url, request) {

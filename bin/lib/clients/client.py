@@ -10,7 +10,7 @@ import urllib.request
 
 TRIES, SECONDS_BETWEEN, SECONDS = 8, 1, 60
 # (the request may or may not have been carried out: the same request again tells)
-AGAIN = (502, 503, 504)
+AGAIN = (429, 502, 503, 504)
 
 
 def asked(request):

@@ -22,7 +22,7 @@ while IFS=$'\t' read -r url key method body; do
         [ "$tried" = 1 ] || sleep 1
         status=$(try --header="desk-key: $key" "${sent[@]}" "$url")
         case $status in
-        '' | 502 | 503 | 504) ;;
+        '' | 429 | 502 | 503 | 504) ;;
         *) break ;;
         esac
     done

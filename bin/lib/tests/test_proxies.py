@@ -6,7 +6,7 @@ import unittest
 from unittest import mock
 
 from lib import desks, proxies, relays, stated
-from lib.checks import clients, openapi, proxy
+from lib.checks import clients, limits, openapi, proxy
 from lib.report import Report
 
 
@@ -68,6 +68,17 @@ class Configuration(unittest.TestCase):
             it.server.asked.return_value = b'{"phase":"OPEN"}'
             proxy.closed(it)
             self.assertEqual(report.wrong, wrong)
+
+    def test_the_limits_can_be_taken_out_and_a_bank_has_one_request_in_progress(self):
+        for kind in proxies.ALL:
+            bare = proxies.filled(kind.deployed(), limits.UNLIMITED[kind.NAME])
+            self.assertNotRegex(re.sub(r"#.*", "", bare), r"limit_conn desk|zone=desk_\w+ burst=[15]|unhealthy")
+        rates = dict(re.findall(r"zone=desk_(\w+):\w+ rate=(\d+)r/s", proxies.Nginx.deployed()))
+        bursts = dict(re.findall(r"zone=desk_(\w+) burst=(\d+)", proxies.Nginx.deployed()))
+        self.assertEqual(set(rates), set(bursts))
+        for it in (rates, bursts):
+            self.assertGreater(int(it["senders"]), int(it["readers"]))
+            self.assertGreater(int(it["readers"]), int(it["statement"]))
 
     def test_longer_bodies_are_those_that_caddy_refuses(self):
         (longer,) = re.findall(r"@too_long header_regexp Content-Length (\S+)", proxies.Caddy.deployed())
