@@ -10,8 +10,12 @@ DEPLOY = f"{kit.TOP}/deploy"
 HANDBOOKS = ("OPERATORS.md", "BANKS.md", "AUDITORS.md", "audit.sql", "SPECIFICATION.md", "openapi.yaml")
 CLIENTS = f"{kit.TOP}/bin/lib/clients"
 DOC, SHARED = "share/doc/desk", "share/desk"
-UNIT, PROGRAM, PAGE = "lib/systemd/system/desk.service", "bin/desk", "share/man/man1/desk.1"
-ORIGIN = f"{SHARED}/origin.txt"
+UNITS, PROGRAM, PAGE = "lib/systemd/system", "bin/desk", "share/man/man1/desk.1"
+UNIT, BACKUP = f"{UNITS}/desk.service", "bin/desk-backup"
+ORIGIN, LISTED = f"{SHARED}/origin.txt", f"{SHARED}/files.txt"
+# files of deploy/ that have the prefix in them, and where they go
+WITH_PREFIX = {f"{UNITS}/{it}": it for it in ("desk.service", "desk-backup.service", "desk-backup.timer")}
+USER = "lib/sysusers.d/desk.conf"
 # a file for each shell, and what makes it
 SHELLS = {
     "share/bash-completion/completions/desk": completions.bash,
@@ -59,15 +63,18 @@ def files(prefix, run):
     texts = {
         PAGE: manual.made(program, f"{prefix}/{DOC}"),
         ORIGIN: origin(program.version, built),
-        UNIT: with_prefix(read(f"{DEPLOY}/desk.service"), prefix),
+        **{path: with_prefix(read(f"{DEPLOY}/{it}"), prefix) for path, it in WITH_PREFIX.items()},
+        USER: read(f"{DEPLOY}/desk.sysusers"),
         **{path: make("desk", program) for path, make in SHELLS.items()},
         **copied(DEPLOY, ("nginx.conf", "Caddyfile"), SHARED),
         **copied(f"{kit.TOP}/docs", HANDBOOKS, DOC),
         **copied(kit.TOP, ("CHANGELOG.md",), DOC),
         **copied(CLIENTS, os.listdir(CLIENTS), f"{DOC}/clients"),
     }
-    found = {PROGRAM: (built, AS_PROGRAM)}
-    return found | {path: (text.encode(), AS_TEXT) for path, text in texts.items()}
+    backup = with_prefix(read(f"{DEPLOY}/desk-backup"), prefix).encode()
+    found = {PROGRAM: (built, AS_PROGRAM), BACKUP: (backup, AS_PROGRAM)}
+    found |= {path: (text.encode(), AS_TEXT) for path, text in texts.items()}
+    return found | {LISTED: ("".join(f"{it}\n" for it in sorted([*found, LISTED])).encode(), AS_TEXT)}
 
 
 def put(path, content, mode):
@@ -93,9 +100,40 @@ def make_folder(path):
         os.chmod(path, AS_PROGRAM)
 
 
-def install(prefix, told):
-    """Installs all below a prefix, and tells each path."""
-    prefix = os.path.abspath(prefix)
+def install(prefix, told, root=""):
+    """Installs all below a prefix, and tells each path. With a root it is put below that, for a package: the files name
+    the prefix alone."""
+    prefix, root = os.path.abspath(prefix), os.path.abspath(root) if root else ""
     for path, (content, mode) in sorted(files(prefix, desks.desk).items()):
-        put(f"{prefix}/{path}", content, mode)
-        told(f"{prefix}/{path}")
+        put(f"{root}{prefix}/{path}", content, mode)
+        told(f"{root}{prefix}/{path}")
+
+
+def listed(below):
+    """Returns what was installed below a prefix, as the list says that stands there."""
+    path = f"{below}/{LISTED}"
+    if not os.path.exists(path):
+        raise desks.Broken(f"{path} is missing: nothing is installed there, or by a version that wrote no list")
+    names = read(path).splitlines()
+    for it in names:
+        if it.startswith("/") or ".." in it.split("/"):
+            raise desks.Broken(f"{path} names {it!r}")
+    return names
+
+
+def uninstall(prefix, told, root=""):
+    """Removes what was installed below a prefix, and the folders that are empty then, and tells each path."""
+    below = (os.path.abspath(root) if root else "") + os.path.abspath(prefix)
+    # (the list itself last, so that what was not removed can be removed by another run)
+    for it in sorted(listed(below), key=lambda it: (it == LISTED, it)):
+        if os.path.lexists(f"{below}/{it}"):
+            os.remove(f"{below}/{it}")
+            told(f"{below}/{it}")
+        remove_empty(below, os.path.dirname(it))
+
+
+def remove_empty(below, folder):
+    """Removes a folder below this one, and those above it there, as far as they are empty."""
+    while folder and os.path.isdir(f"{below}/{folder}") and not os.listdir(f"{below}/{folder}"):
+        os.rmdir(f"{below}/{folder}")
+        folder = os.path.dirname(folder)

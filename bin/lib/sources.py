@@ -1,6 +1,7 @@
 """The sources of the commit that is checked out, with its name in them: by it the program names its commit."""
 import os
 import re
+import shutil
 import subprocess
 
 import kit
@@ -21,6 +22,22 @@ def write(folder):
     if packed.returncode:
         raise desks.Broken("git gives no sources of the commit")
     subprocess.run(["tar", "-x", "-C", folder], input=packed.stdout, check=True)
+
+
+def kept():
+    """Returns the folder that has the sources of the commit that is checked out, and what was built of them before. They
+    are written there where they are not; those of other commits are removed."""
+    name = evidence.output("git", "rev-parse", "HEAD")
+    above = f"{kit.TOP}/out/installed"
+    os.makedirs(above, exist_ok=True)
+    for it in set(os.listdir(above)) - {name}:
+        shutil.rmtree(f"{above}/{it}")
+    if not os.path.isdir(f"{above}/{name}"):
+        # (whole at once: a run that was ended leaves no part under that name)
+        os.mkdir(f"{above}/{name}.part")
+        write(f"{above}/{name}.part")
+        os.rename(f"{above}/{name}.part", f"{above}/{name}")
+    return f"{above}/{name}"
 
 
 def commit(version):

@@ -69,11 +69,22 @@ def completions(prefix, folder, sees):
             sees(f"{shell} -n", run_tool(shell, "-n", path), (0, ""))
 
 
-def unit(prefix, sees):
-    """systemd finds no fault with the unit, whose program and man page are the installed ones."""
+def units(prefix, sees):
+    """systemd finds no fault with the units, whose programs and man page are the installed ones."""
     env = {**os.environ, "MANPATH": f"{prefix}/share/man"}
-    verified = run_tool("systemd-analyze", "verify", f"{prefix}/{installing.UNIT}", env=env)
-    sees("systemd-analyze verify", verified, (0, ""))
+    for it in installing.WITH_PREFIX:
+        verified = run_tool("systemd-analyze", "verify", f"{prefix}/{it}", env=env)
+        sees(f"systemd-analyze verify {it}", verified, (0, ""))
+    if shutil.which("systemd-sysusers"):
+        made = run_tool("systemd-sysusers", "--dry-run", f"{prefix}/{installing.USER}")
+        sees("systemd-sysusers", (made[0], "Creating user 'desk'" in made[1]), (0, True))
+
+
+def removed(prefix, paths, sees):
+    """What was installed is removed."""
+    gone = []
+    installing.uninstall(prefix, gone.append)
+    sees("what is removed", (sorted(gone), os.listdir(prefix)), (sorted(paths), []))
 
 
 def setting(text, name):
@@ -123,11 +134,12 @@ def run(_given, report):
         sees("the version", run_tool(f"{prefix}/{installing.PROGRAM}", "--version"), (0, desks.desk("--version")))
         man_page(prefix, helps.program(desks.desk), sees)
         completions(prefix, folder, sees)
-        unit(prefix, sees)
+        units(prefix, sees)
         modes(prefix, folder, sees)
         again = []
         installing.install(prefix, again.append)
         sees("a second installation", again, paths)
+        removed(prefix, paths, sees)
     shells = [it for it in ("bash", "zsh", "fish") if shutil.which(it)]
     report.finds(f"{len(paths)} files, shells: {', '.join(shells)}; "
                  f"{report.right} things as they must be, {report.wrong} not")

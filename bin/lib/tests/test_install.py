@@ -201,9 +201,57 @@ class Installing(unittest.TestCase):
         told = self.installed()
         self.assertEqual(sorted(told), sorted(f"{at}/{it}" for at, _, names in os.walk(self.prefix) for it in names))
         for path in told:
-            is_program = path.endswith("bin/desk")
+            is_program = os.path.basename(os.path.dirname(path)) == "bin"
             self.assertEqual(stat.S_IMODE(os.stat(path).st_mode), 0o755 if is_program else 0o644, path)
             self.assertEqual(stat.S_IMODE(os.stat(os.path.dirname(path)).st_mode), 0o755, path)
+
+    def test_what_was_installed_is_listed_and_removed_and_nothing_else(self):
+        told = self.installed()
+        names = desks.content(f"{self.prefix}/{installing.LISTED}").decode().splitlines()
+        self.assertEqual([f"{self.prefix}/{it}" for it in names], sorted(told))
+        kept = f"{self.prefix}/share/man/man1/other.1"
+        with open(kept, "w", encoding="utf-8") as it:
+            it.write("of another")
+        removed = []
+        installing.uninstall(self.prefix, removed.append)
+        self.assertEqual(sorted(removed), sorted(told))
+        left = [f"{at}/{it}" for at, folders, names in os.walk(self.prefix) for it in names + folders]
+        self.assertEqual(sorted(left), [f"{self.prefix}/{it}" for it in
+                                        ("share", "share/man", "share/man/man1", "share/man/man1/other.1")])
+        self.assertRaisesRegex(desks.Broken, "is missing", installing.uninstall, self.prefix, print)
+
+    def test_a_list_that_names_other_places_is_refused(self):
+        self.installed()
+        for line in ("../other", "/etc/passwd", "share/../../other"):
+            with open(f"{self.prefix}/{installing.LISTED}", "w", encoding="utf-8") as it:
+                it.write(f"bin/desk\n{line}\n")
+            self.assertRaisesRegex(desks.Broken, "names", installing.uninstall, self.prefix, print)
+            self.assertTrue(os.path.exists(f"{self.prefix}/bin/desk"))
+
+    def test_for_a_package_all_is_put_below_another_root(self):
+        root, told = f"{self.prefix}/root", []
+        with mock.patch.object(desks, "desk", run):
+            installing.install("/usr", told.append, root)
+        self.assertTrue(all(it.startswith(f"{root}/usr/") and os.path.exists(it) for it in told))
+        unit = desks.content(f"{root}/usr/{installing.UNIT}").decode()
+        self.assertIn("\nExecStart=/usr/bin/desk serve bank.desk ", unit)
+        self.assertNotIn(root, unit + desks.content(f"{root}/usr/{installing.BACKUP}").decode())
+        installing.uninstall("/usr", told.append, root)
+        self.assertEqual(os.listdir(f"{root}/usr"), [])
+
+    @unittest.skipUnless(sources.is_checkout(), "needs a checkout")
+    def test_sources_that_were_written_before_are_taken_again(self):
+        with desks.room() as top, mock.patch.object(sources.kit, "TOP", top), \
+                mock.patch.object(sources, "write", lambda folder: open(f"{folder}/a", "x").close()) as _, \
+                mock.patch.object(evidence, "output", lambda *_: "c1"):
+            first = sources.kept()
+            with open(f"{first}/built", "w", encoding="utf-8"):
+                pass
+            self.assertEqual((sources.kept(), sorted(os.listdir(first))), (first, ["a", "built"]))
+            os.mkdir(f"{top}/out/installed/c2.part")
+            with mock.patch.object(evidence, "output", lambda *_: "c2"):
+                self.assertEqual(os.listdir(sources.kept()), ["a"])
+            self.assertEqual(os.listdir(f"{top}/out/installed"), ["c2"])
 
     def test_a_file_that_is_there_is_replaced_and_not_written_over(self):
         self.installed()
@@ -271,8 +319,17 @@ class Installing(unittest.TestCase):
     def test_systemd_finds_no_fault_with_the_unit(self):
         self.installed()
         os.chmod(f"{self.prefix}/bin/desk", 0o755)
-        path = f"{self.prefix}/{installing.UNIT}"
-        self.assertEqual(install.run_tool("systemd-analyze", "verify", "--man=no", path), (0, ""))
+        os.chmod(f"{self.prefix}/{installing.BACKUP}", 0o755)
+        for it in installing.WITH_PREFIX:
+            said = install.run_tool("systemd-analyze", "verify", "--man=no", f"{self.prefix}/{it}")
+            self.assertEqual(said, (0, ""), it)
+
+    def test_the_user_of_the_units_is_the_one_that_is_made(self):
+        self.installed()
+        made = desks.content(f"{self.prefix}/{installing.USER}").decode().splitlines()[-1].split()[:2]
+        for it in ("desk.service", "desk-backup.service"):
+            unit = desks.content(f"{self.prefix}/{installing.UNITS}/{it}").decode()
+            self.assertEqual(made, ["u", install.setting(unit, "User")])
 
 
 class Deployed(unittest.TestCase):
@@ -294,7 +351,9 @@ class Deployed(unittest.TestCase):
 
     def test_each_line_has_its_reason(self):
         # (what only opens or closes a part, and what says again what stands in the line that opens it)
-        self.assertEqual(self.reasons("desk.service", r"\[\w+\]|(Description|Documentation)=.*"), [])
+        for name in ("desk.service", "desk-backup.service", "desk-backup.timer"):
+            ends = r"\[\w+\]|(Description|Documentation|ExecStart=@PREFIX@/bin/desk-backup)=?.*"
+            self.assertEqual(self.reasons(name, ends), [])
         self.assertEqual(self.reasons("nginx.conf", r"\}|(server|location) .*\{|default_type .*|return .*"), [])
         ends = r"\}|.*\{|max_size .*|max_buffer_size .*|header .*|respond .*|import way"
         self.assertEqual(self.reasons("Caddyfile", ends), [])
