@@ -88,6 +88,7 @@ class Description:
             "enum": lambda of: value in of,
             "minimum": lambda of: value >= of,
             "maximum": lambda of: value <= of,
+            "not": lambda of: value != of["const"],
             "pattern": lambda of: re.search(of, value),
             "required": lambda of: set(of) <= set(value),
             "additionalProperties": lambda of: of or set(value) <= set(schema.get("properties", {})),

@@ -83,6 +83,16 @@ class OpenApi(unittest.TestCase):
             found = self.found(openapi.examples, (answer, f"settled: {{value: {wrong}}}"))
             self.assertEqual(len(found), 1, wrong)
 
+    def test_cents_are_never_0_and_amounts_begin_at_1(self):
+        description = openapi.Description(self.text)
+        schemas = description.said["components"]["schemas"]
+        for name, good, bad in (("Cents", (-1, 1, 10**15), (0, 10**15 + 1, 1.0)),
+                                ("Amount", (1, 10**12), (0, -1, 10**12 + 1, 1000.0))):
+            self.assertEqual([description.faults(it, schemas[name]) for it in good], [[]] * len(good))
+            self.assertTrue(all(description.faults(it, schemas[name]) for it in bad), name)
+        posting = {"cents": 0, "code": "ALFA", "reference": "P-1"}
+        self.assertTrue(description.faults(posting, schemas["NewPosting"]))
+
     def test_a_refusal_of_another_status_or_that_is_missing_is_found(self):
         self.assertEqual(len(self.found(openapi.refusals, ("17 NotQueued", "9 UnknownOrder"))), 3)
         self.assertEqual(len(self.found(openapi.refusals, ("13 TotalTooLarge", "13 NoCover"))), 1)
