@@ -204,14 +204,19 @@ TEXTS = {
         "The file of a new book has pages of {page} bytes, where it had {large_page}:",
     ],
 }
-# numbers that another script or a test asserts, which is named
+# numbers that another script or a test asserts: the file, and what stands there; or else what is to be said of them, of
+# which only their presence is compared
+HANDBOOKS = "bin/lib/checks/handbooks.py"
 ELSEWHERE = {
     "README.md": {
-        "Three banks owe each other 100 cents in a ring": "rtgs_cli_trials, gridlocks.rt",
-        "A first build took 50 minutes on four quiet processors, 49 on partly busy ones": "bin/build, timed (COSTS)",
+        "Three banks owe each other 100 cents in a ring": ("README.md", "amount\\nA-1,BETA,100\\n"),
+        "A first build took 50 minutes on four quiet processors, 49 on partly busy ones": (
+            "docs/COSTS.md", "minutes: 50 minutes, and 141 minutes of processor time. Another, with other work beside "
+            "its last third, took 49."),
     },
     "docs/SPECIFICATION.md": {
-        "at most 127 levels deep, without a number too large for a 64-bit float": "rtgs_http_trials, bodies.rt",
+        "at most 127 levels deep, without a number too large for a 64-bit float": (
+            "crates/rtgs_http_trials/src/tests/bodies.rt", "values_nest_127_levels_at_most"),
         **dict.fromkeys((
             "| 1 to 10 | kind | | 12 to 20 | number, in nine digits | | 22 to 37 | reference |",
             "| 39 to 46 | the other party, `-` for a posting | | 48 to 67 | amount, right-aligned |",
@@ -220,20 +225,23 @@ ELSEWHERE = {
             "| 1 to 8 | code | 1 to 10 | state | | 10 to 39 | posted, right-aligned | 12 to 20 | number of orders",
             "| 41 to 70 | sent, right-aligned | 22 to 51 | value, right-aligned |",
             "| 72 to 101 | received, right-aligned |",
-        ), "bin/checks handbooks"),
+        ), "the lines that are shown"),
     },
     "docs/OPERATORS.md": {
-        "After a run that ended by itself it holds no commits (41 bytes).": "bin/checks handbooks",
+        "After a run that ended by itself it holds no commits (41 bytes).": (
+            "docs/OPERATORS.md", "$ stat -c %s bank.desk-wal 41 "),
     },
     "CONTRIBUTING.md": {
-        "Lines fit into 120 columns. A function has fewer than 40 lines,": "bin/lib/tests, of the scripts",
+        "Lines fit into 120 columns. A function has fewer than 40 lines,": (
+            "bin/lib/tests/test_scripts.py", "test_lines_fit_into_120_columns"),
     },
     "docs/BANKS.md": {
-        "on port 8080, without a proxy.": "bin/checks handbooks",
-        "ALFA has 150 cents and a credit limit of 0,": "bin/checks handbooks",
+        "on port 8080, without a proxy.": (HANDBOOKS, "desk serve bank.desk --port 8080"),
+        "ALFA has 150 cents and a credit limit of 0,": (HANDBOOKS, "desks.new_book(book, keys, 150,"),
     },
     "docs/AUDITORS.md": {
-        "any page size from 512 to 65536;": "bin/checks hostile-files",
+        "any page size from 512 to 65536;": (
+            "bin/lib/hostile.py", "SIZES = [512, 1024, 2048, 4096, 8192, 16384, 32768, 65536]"),
     },
     "docs/DECISIONS.md": {
         "Sums have 128 bits, stored amounts 64": "rt check, by the types of the code",

@@ -23,7 +23,7 @@ import re
 
 import kit
 from lib import contracts as listing
-from lib import evidence, findings, stated, tables, unproved, words
+from lib import columns, evidence, findings, stated, tables, unproved, words
 from lib.checks import asserted
 
 NEEDS_THE_PROGRAM = False
@@ -297,6 +297,9 @@ def without_stated(name, text, sees):
     for it, where in stated.ELSEWHERE.get(name, {}).items():
         found = [m.span() for m in re.finditer(r"\s+".join(map(re.escape, it.split())), text)]
         sees(f"{name} says: {it} ({where})", bool(found), True)
+        # (what asserts it: a file, and what stands there)
+        if not isinstance(where, str):
+            sees(f"{where[0]} asserts what {name} says: {it}", where[1] in folded(read(where[0])), True)
         text = blanked(text, found)
     return text
 
@@ -345,6 +348,15 @@ def refusals_as_specified(text, sees):
             replies |= {it: int(status) for it in range(int(first), int(last or first) + 1)}
     wanted = {it: of[1] for it, of in refusals.items() if of[1] is not None}
     sees("statuses of replies", {it: replies.get(it, int(told[2])) for it in wanted}, wanted)
+
+
+def columns_as_shown(text, sees):
+    """The columns that the specification states are those of the lines that it shows."""
+    ranges, lines = columns.stated(text), columns.shown(text)
+    for kind, of in lines.items():
+        sees(f"{SPECIFICATION}, lines that are shown: {kind}", len(of) > 2, True)
+        for line in of:
+            sees(f"{SPECIFICATION}, columns of: {line}", columns.fits(line, ranges[kind]), True)
 
 
 # what `--version` says: the program's version, that of its tables, and the kit
@@ -468,6 +480,7 @@ def run(_given, report):
     for name in ("README.md", GUARANTEES):
         names(name, read(name), report.sees)
     refusals_as_specified(read(SPECIFICATION), report.sees)
+    columns_as_shown(section(read(SPECIFICATION), "Statement and day report"), report.sees)
     versions(report.sees)
     made_tables(report.sees)
     day_of_commands(read(OPERATORS), read(SPECIFICATION), report.sees)

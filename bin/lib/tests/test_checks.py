@@ -184,6 +184,21 @@ class Documents(unittest.TestCase):
             self.assertIn(f"number and files of {name} at a glance", self.at_a_glance(good.replace(old, new)))
         self.assertIn("numbers of the promises at a glance", self.at_a_glance(good.replace("| 2 |", "| 3 |")))
 
+    def test_columns_are_those_of_the_lines_that_are_shown(self):
+        text = documents.section(documents.read(documents.SPECIFICATION), "Statement and day report")
+        self.assertEqual(self.found(documents.columns_as_shown, text), [])
+        for old, new in (("| 12 to 20 | number, in", "| 12 to 21 | number, in"), ("| 22 to 37 |", "| 22 to 36 |"),
+                         ("| 69 to 77 |", "| 69 to 78 |"), ("columns 12 to 41.", "columns 12 to 40."),
+                         ("| 1 to 8 |", "| 1 to 9 |"), ("| 22 to 51 |", "| 22 to 50 |"), ("    marks ", "    marks")):
+            self.assertEqual(text.count(old), 1, old)
+            self.assertNotEqual(self.found(documents.columns_as_shown, text.replace(old, new)), [], old)
+
+    def test_what_another_file_asserts_must_stand_there(self):
+        for asserted, wrong in (("values of 7", 0), ("values of 8", 1)):
+            with mock.patch.object(stated, "ELSEWHERE", {"docs/NONE.md": {"at most 7": ("bin/none", asserted)}}):
+                found = self.found(documents.without_stated, "docs/NONE.md", "at most 7", read=lambda _: "values of 7")
+            self.assertEqual(len(found), wrong)
+
     def test_the_version_is_what_the_program_tells(self):
         self.assertEqual(self.found(documents.versions), [])
         for name, old, what in (("CHANGELOG.md", r"(?m)^## \d", "the newest version in CHANGELOG.md"),
