@@ -25,8 +25,8 @@ def write(folder):
 
 
 def kept():
-    """Returns the folder that has the sources of the commit that is checked out, and what was built of them before. They
-    are written there where they are not; those of other commits are removed."""
+    """Returns the folder that has the sources of the commit that is checked out, and what was built of them before.
+    They are written there where they are not; those of other commits are removed."""
     name = evidence.output("git", "rev-parse", "HEAD")
     above = f"{kit.TOP}/out/installed"
     os.makedirs(above, exist_ok=True)
