@@ -28,7 +28,7 @@ AT_ONCE = 30
 STATEMENT = f"/statements/{desks.DATE}"
 # what is taken out of a configuration, to see that it is what limits
 UNLIMITED = {
-    "nginx": {it: "" for it in ("limit_conn desk_banks 2;", "limit_req zone=desk_readers burst=20;",
+    "nginx": {it: "" for it in ("limit_conn desk_long 2;", "limit_req zone=desk_readers burst=20;",
                                 "limit_req zone=desk_statement burst=5;", "limit_req zone=desk_statements burst=100;")},
     "caddy": {"unhealthy_request_count 1": ""},
 }

@@ -72,7 +72,9 @@ class Configuration(unittest.TestCase):
     def test_the_limits_can_be_taken_out_and_a_bank_has_one_request_in_progress(self):
         for kind in proxies.ALL:
             bare = proxies.filled(kind.deployed(), limits.UNLIMITED[kind.NAME])
-            self.assertNotRegex(re.sub(r"#.*", "", bare), r"limit_conn desk|zone=desk_\w+ burst=[15]|unhealthy")
+            self.assertNotRegex(re.sub(r"#.*", "", bare), r"limit_conn desk_long|zone=desk_\w+ burst=[15]|unhealthy")
+        most = dict(re.findall(r"limit_conn desk_(\w+) (\d+);", proxies.Nginx.deployed()))
+        self.assertEqual(most, {"long": "2", "short": "20"})
         rates = dict(re.findall(r"zone=desk_(\w+):\w+ rate=(\d+)r/s", proxies.Nginx.deployed()))
         bursts = dict(re.findall(r"zone=desk_(\w+) burst=(\d+)", proxies.Nginx.deployed()))
         self.assertEqual(set(rates), set(bursts))
