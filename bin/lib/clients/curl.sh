@@ -5,7 +5,8 @@ set -eu
 reply=$(mktemp)
 trap 'rm "$reply"' EXIT
 
-# --retry alone sends again after 429, 502, 503 and 504; --retry-all-errors does where the connection ended without a reply
+# --retry alone sends again after 429, 502, 503 and 504; --retry-all-errors also where the connection ended without a
+# reply
 again=(--retry 8 --retry-delay 1 --retry-all-errors)
 
 while IFS=$'\t' read -r url key method body; do

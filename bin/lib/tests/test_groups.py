@@ -54,11 +54,12 @@ class Groups(unittest.TestCase):
     def test_what_lacks_a_tool_is_left_out_and_named(self):
         status, lines, ran = self.run_main("all", "--no-evidence", without=["node", "nginx", "cc"])
         self.assertEqual(status, 0)
-        left = {"clients", "proxy", "limits", "creations", "refusals", "power-cuts", "plants"}
+        left = {"clients", "proxy", "limits", "creations", "refusals", "power-cuts", "faulty-disks", "plants"}
         self.assertEqual({it[0] for it in ran}, set(checks.NAMES) - left)
         self.assertEqual([it for it in lines if "left out" in it], [
             "edges, lack of memory: left out, since there is no cc", "creations: left out, since there is no cc",
             "refusals: left out, since there is no cc", "power-cuts: left out, since there is no cc",
+            "faulty-disks: left out, since there is no cc",
             "clients: left out, since there is no node", "proxy: left out, since there is no nginx",
             "limits: left out, since there is no nginx"])
 
