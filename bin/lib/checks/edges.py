@@ -2,14 +2,18 @@
 
 An answer and help must stand on standard output alone, and end with 0. A refusal must stand on standard error alone, in
 one line, and end with the status that SPECIFICATION.md lists. The bytes of the book's file must change where a command
-acted, and in no other run. A server must not wait for a peer to close that has its whole reply. Without a C compiler,
-`cc`, lack of memory is left out.
+acted, and in no other run. Book, lock and order file must be those of the very names that are given, where names begin
+and end with a space, or are links, too. Each order of the longest order file must be answered, and be in the book. A
+server must not wait for a peer to close that has its whole reply. Without a C compiler, `cc`, lack of memory is left
+out.
 
-Shows: that the program tells each answer and each refusal on the one stream where it belongs, with its exit status.
+Shows: that the program tells each answer and each refusal on the one stream where it belongs, with its exit status, and
+takes the files that its words name.
 Cannot show: runs with other words than these, and refusals of a book that is full.
 """
 import contextlib
 import fcntl
+import glob
 import os
 import re
 import shlex
@@ -18,6 +22,7 @@ import socket
 import sqlite3
 import time
 
+import kit
 from lib import desks, runs, stated
 from lib.checks import migrations
 
@@ -108,7 +113,29 @@ READINGS = ["account @ ALFA", "accounts @", "queue @ ALFA", "order @ ALFA A-1", 
             "report @ 2024-03-04"]
 # every command, in words that are well formed
 EACH = [*migrations.OTHERS, "migrate @", "init @"]
-MISUSED = ["", "pay @", "init", "init @ @", "post @ ALFA P-9", "init --unknown", "explain 21", SERVE.format(0)]
+MISUSED = ["", "pay @", "init", "post @ ALFA P-9", "init --unknown", "explain 21", SERVE.format(0),
+           *(f"{it} more" for it in EACH if not it.startswith("serve"))]
+VERSION = r"desk \d+\.\d+\.\d+, tables \d+, {}, commit (\$Format:%H\$|[0-9a-f]{{40}})\n"
+# names that begin and end with a space, and runs over a book with such a name
+SPACED, ORDERS = f" {BOOK} ", " alfa.csv "
+OF_SPACED = [
+    "init @ => initialised",
+    "init @ => !96",
+    f"add @ ALFA Alfa {A} => added",
+    f"add @ BETA Beta {B} => added",
+    "post @ ALFA P-1 150 => posted 1",
+    "open @ 2024-03-04 => opened",
+    f"import @ ALFA '{ORDERS}' => {RESULTS} / S-1,settled,1,1",
+]
+# runs by a link to that book, whose order file is a link too
+OF_LINK = [
+    "init @ => !96",
+    "post @ ALFA P-1 150 => =repeated",
+    "post @ ALFA P-2 1 => posted 2",
+    f"import @ ALFA link.csv => ={RESULTS} / S-1,repeated,1,settled",
+]
+# the most bytes of an order file, and a row of one
+LONGEST, LONG_ROW = 65536, "L-{:02},BETA,1"
 # A run meets these refusals in rows of result files alone; this one after 999999999 postings; and this one never.
 OF_ROWS, AT_THE_LAST_NUMBER, NEVER = {2, 3, 5, 7, 20}, {8}, {92}
 # a shell that starts a program whose files may not grow past half a mebibyte
@@ -127,22 +154,21 @@ def wanted(answer):
 
 
 class Edges:
-    """A book in a folder of its own, and the refusals that were met."""
+    """A book of a name in a folder of its own, and the refusals that were met."""
 
-    def __init__(self, folder, report):
-        self.folder, self.sees, self.met = folder, report.sees, set()
+    def __init__(self, folder, report, book=BOOK):
+        self.folder, self.sees, self.met, self.book = folder, report.sees, set(), book
         for name, text in FILES.items():
-            with open(f"{folder}/{name}", "w", encoding="utf-8") as it:
-                it.write(text)
+            self.makes(name, text)
 
     def content(self):
         """Returns the bytes of the book's file, or nothing where there is none."""
-        path = f"{self.folder}/{BOOK}"
+        path = f"{self.folder}/{self.book}"
         return desks.content(path) if os.path.exists(path) else None
 
-    def tried(self, line, book=BOOK, **how):
+    def tried(self, line, book=None, **how):
         """Runs the program with the words of a line, and returns how that ended, and whether it changed the book."""
-        before = self.content()
+        before, book = self.content(), book or self.book
         ran = runs.run(*[book if it == "@" else it for it in shlex.split(line)], cwd=self.folder, **how)
         refusal = runs.REFUSED.fullmatch(ran.err)
         self.met |= {int(refusal[1])} if refusal else set()
@@ -157,6 +183,22 @@ class Edges:
         """Runs a line over another file, or while another run holds the lock."""
         self.sees(f"{line} of {book}", self.tried(line, book), (runs.refused(number, detail), False))
 
+    def makes(self, name, text):
+        """Makes a file with this text in the folder."""
+        with open(f"{self.folder}/{name}", "w", encoding="utf-8") as it:
+            it.write(text)
+
+    def names(self):
+        """Returns the names of what stands in the folder, in their order."""
+        return sorted(os.listdir(self.folder))
+
+    @contextlib.contextmanager
+    def locks(self, name):
+        """Holds a lock of this name in the folder."""
+        with open(f"{self.folder}/{name}", "ab") as lock:
+            fcntl.flock(lock, fcntl.LOCK_EX)
+            yield
+
     def prints(self, line):
         """Runs a line that is to print something and to change nothing, and returns what it prints."""
         ran, changes = self.tried(line)
@@ -166,15 +208,16 @@ class Edges:
 
 def other_files(edges):
     """Runs over a file that is in use, missing, a folder, of two names, or of an unsound book; a port that is taken."""
-    with open(f"{edges.folder}/{BOOK}.lock", "ab") as lock:
-        fcntl.flock(lock, fcntl.LOCK_EX)
+    with edges.locks(BOOK + desks.LOCK):
         for line in EACH:
             edges.is_refused(line, BOOK, 95)
     for line in EACH[:-1]:
         edges.is_refused(line, "absent.desk", 93)
     edges.sees("absent.desk is made", os.path.exists(f"{edges.folder}/absent.desk"), False)
     os.mkdir(f"{edges.folder}/folder.desk")
-    edges.is_refused("post @ ALFA P-9 1", "folder.desk", 91)
+    for line in EACH[:-1]:
+        edges.is_refused(line, "folder.desk", 91)
+    edges.sees("files in folder.desk", os.listdir(f"{edges.folder}/folder.desk"), [])
     os.link(f"{edges.folder}/{BOOK}", f"{edges.folder}/linked.desk")
     edges.is_refused("report @ 2024-03-04", "linked.desk", 91)
     os.remove(f"{edges.folder}/linked.desk")
@@ -183,21 +226,115 @@ def other_files(edges):
         book.execute("UPDATE participant SET balance = balance + 1")
     edges.is_refused("report @ 2024-03-04", "unsound.desk", 94, "14")
     with socket.create_server(("127.0.0.1", 0)) as taken:
-        edges.follows(f"{SERVE.format(taken.getsockname()[1])} => !97")
+        line = SERVE.format(taken.getsockname()[1])
+        edges.follows(f"{line} => !97")
+        is_misused(edges, f"{line} more")
+
+
+def links(edges):
+    """Links in the place of a book and of an order file: to themselves, and to nothing."""
+    os.symlink("loop.desk", f"{edges.folder}/loop.desk")
+    for line in EACH:
+        edges.is_refused(line, "loop.desk", 91)
+    os.symlink("none.desk", f"{edges.folder}/nowhere.desk")
+    for line in EACH[:-1]:
+        edges.is_refused(line, "nowhere.desk", 93)
+    edges.sees("none.desk is made", os.path.lexists(f"{edges.folder}/none.desk"), False)
+    for name in ("loop.desk", "nowhere.desk", "folder.desk"):
+        edges.follows(f"import @ ALFA {name} => !98")
+
+
+def spaced_names(edges):
+    """A book whose name begins and ends with a space, and an order file of such a name. Beside the order file stands
+    one without the spaces, and then so does a book, whose lock is held."""
+    edges.makes(ORDERS, f"{HEADER}S-1,BETA,100\n")
+    before = edges.names()
+    for line in OF_SPACED:
+        edges.follows(line)
+    made = sorted([*before, *(f"{SPACED}{it}" for it in ("", desks.LOG, desks.LOCK))])
+    edges.sees(f"files beside '{SPACED}'", edges.names(), made)
+    if edges.content() is None:
+        return
+    edges.sees(f"'{ORDERS}' that is missing", edges.tried("import @ ALFA ' none.csv '"), wanted("!98"))
+    with edges.locks(SPACED + desks.LOCK):
+        for line in EACH:
+            edges.is_refused(line, SPACED, 95)
+    edges.is_refused("post @ ALFA P-1 150", BOOK, 93)
+    other = shutil.copy(f"{edges.folder}/{SPACED}", f"{edges.folder}/{BOOK}")
+    content = desks.content(other)
+    with edges.locks(BOOK + desks.LOCK):
+        edges.follows("credit @ BETA 7 => credit set")
+    edges.sees(f"the bytes of {BOOK}", desks.content(other) == content, True)
+
+
+def linked_names(edges):
+    """A link to a book, and one to an order file. The lock has the link's name. So such a run does not wait for a
+    server by the book's own name, and is refused by the database's locks."""
+    os.symlink(SPACED, f"{edges.folder}/link.desk")
+    os.symlink(ORDERS, f"{edges.folder}/link.csv")
+    linked = Edges(edges.folder, edges, "link.desk")
+    for line in OF_LINK:
+        linked.follows(line)
+    made = sorted(glob.glob("link.desk*", root_dir=edges.folder))
+    edges.sees("files of link.desk", made, ["link.desk", f"link.desk{desks.LOCK}"])
+    edges.sees("link.desk is a link", os.path.islink(f"{edges.folder}/link.desk"), True)
+    with desks.Server(f"{edges.folder}/{SPACED}", 1) as server:
+        linked.is_refused("post @ ALFA P-2 1", "link.desk", 91)
+        server.kill()
+
+
+def long_rows(count=LONGEST // 4096):
+    """Returns the rows of an order file that has an order in each 4,096 bytes, the last one at its very end, and its
+    bytes. Empty lines stand between the rows."""
+    rows = [LONG_ROW.format(it) for it in range(1, count + 1)]
+    text = HEADER
+    for number, row in enumerate(rows, 1):
+        text = text.ljust(LONGEST // count * number - len(row), "\n") + row
+    return rows, text
+
+
+def long_orders(edges):
+    """An order file of as many bytes as one may have, of which each order is answered and in the book, and one of a
+    byte more, which is refused."""
+    rows, text = long_rows()
+    long = Edges(edges.folder, edges, "long.desk")
+    desks.new_book(f"{long.folder}/{long.book}", desks.KEYS, len(rows))
+    long.makes("longest.csv", text)
+    long.makes("longer.csv", f"{text}\n")
+    long.follows("import @ ALFA longer.csv => !63")
+    answers = [f"{row.split(',')[0]},settled,{it},{it}" for it, row in enumerate(rows, 1)]
+    long.follows(f"import @ ALFA longest.csv => {' / '.join([RESULTS, *answers])}")
+    sent = re.findall(r"^sent +\d+ (\S+)", long.prints(f"statement @ ALFA {desks.DATE}"), re.M)
+    edges.sees("orders of longest.csv in the book", sent, [it.split(",")[0] for it in rows])
+
+
+def other_names(edges):
+    """A book and an order file with such names, in a folder of their own, and links to them."""
+    folder = f"{edges.folder}/names"
+    os.mkdir(folder)
+    named = Edges(folder, edges, SPACED)
+    spaced_names(named)
+    linked_names(named)
+
+
+def is_misused(edges, line):
+    """Runs words that are no command line."""
+    ran, changes = edges.tried(line)
+    found = (ran.status, ran.out, ran.err != "", bool(runs.REFUSED.match(ran.err)), changes)
+    edges.sees(f"misused: {line}", found, (2, "", True, False, False))
 
 
 def helps(edges):
     """Help and the version, and words that are no command line."""
     commands = {it.split(" ")[0] for it in EACH} | {"explain"}
     edges.prints("--help")
-    edges.sees("--version", bool(re.fullmatch(r"desk [\d.]+, tables \d+, .+\n", edges.prints("--version"))), True)
+    version = VERSION.format(re.escape(kit.version()))
+    edges.sees("--version", bool(re.fullmatch(version, edges.prints("--version"))), True)
     for line in ("{} --help", "help {}"):
         texts = {edges.prints(line.format(it)) for it in commands}
         edges.sees(f"texts of {line}", len(texts), len(commands))
     for line in MISUSED:
-        ran, changes = edges.tried(line)
-        found = (ran.status, ran.out, ran.err != "", bool(runs.REFUSED.match(ran.err)), changes)
-        edges.sees(f"misused: {line}", found, (2, "", True, False, False))
+        is_misused(edges, line)
     ran = runs.run(b"\xff", cwd=edges.folder)
     edges.sees("a word that is not UTF-8", (ran.status, ran.out, ran.err != ""), (2, "", True))
 
@@ -257,6 +394,8 @@ def run(_given, report):
         for line in READINGS:
             edges.prints(line)
         other_files(edges)
+        links(edges)
+        long_orders(edges)
         helps(edges)
         explanations(edges)
         full_streams(edges)
@@ -264,6 +403,7 @@ def run(_given, report):
         is_whole = bool(desks.installed(PARTS[MEMORY]))
         if is_whole:
             lack_of_memory(edges)
+        other_names(edges)
     must = set(runs.refusals()) - OF_ROWS - AT_THE_LAST_NUMBER - NEVER - (set() if is_whole else {90})
     report.sees("refusals that were met", sorted(edges.met), sorted(must))
     report.finds(f"{len(edges.met)} refusals of runs, help, full streams, {MEMORY if is_whole else 'ample memory'}: "
