@@ -36,11 +36,11 @@ fn chosen(
     positions: &Positions,
     queues: &Queues,
 ) -> Result<Workspace, Fail> {
-    ensure(positions.len() == 2)?;
-    ensure(queues.len() == 2)?;
-    ensure(positions.are_floored())?;
-    ensure(queues.are_in_range())?;
-    ensure(queues.payment_count() == Some(3))?;
+    assert_eq!(rt; positions.len(), 2);
+    assert_eq!(rt; queues.len(), 2);
+    assert!(rt; positions.are_floored());
+    assert!(rt; queues.are_in_range());
+    assert!(rt; queues.payment_count() == Some(3));
     let mut workspace = Workspace::reserve(alloc, 2, 3)?;
     let held = Held::all_but(alloc, 0)?;
     let is_none = is_none_left(alloc);
