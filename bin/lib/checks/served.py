@@ -1,11 +1,11 @@
 """Has the program serve one order twice over loopback, and peers that are refused or slow, byte by byte.
 
 `desk serve --count 2` must listen, settle the order, answer it as a repeat when it comes again, and end with `served 2`
-and the status 0. The money must have moved once. A peer that is refused, and has sent 100 KB that nobody read, must get
-its whole reply, and the next one its own within two seconds, while the first stays. A long reply to a peer that reads
-slowly must be what the program prints. A server of a million connections must serve the first ones. Each must listen at
-the very port that it is given, below 1024 too, or be refused. The tests of the gate serve over a real port from a child
-of the test; this is the program itself.
+and the status 0. The money must have moved once. A peer that is refused, and then sends 100 KB more, must be able to
+send them and get its whole reply, and the next one its own within two seconds, while the first stays. A long reply to a
+peer that reads slowly must be what the program prints. A server of a million connections must serve the first ones.
+Each must listen at the very port that it is given, below 1024 too, or be refused. The tests of the gate serve over a
+real port from a child of the test; this is the program itself.
 
 Shows: that the program takes connections, acts once on what is sent twice, replies to the byte, and ends as it says.
 Cannot show: many connections and other requests: `openapi` sends the others. Without the right to open a port below
@@ -23,8 +23,9 @@ CENTS = 150
 REPLY = "HTTP/1.1 {} {}\r\nContent-Type: {}\r\nContent-Length: {}\r\nConnection: close\r\n\r\n{}"
 ANSWERS = ('{"answer":"settled","mark":1,"number":1}', '{"answer":"repeated","mark":1,"number":1,"state":"settled"}')
 REFUSAL = '{"code":67,"name":"NoSuchRoute"}'
-# how many bytes a refused peer has sent that nobody read, and how long the next one may wait, in seconds
-UNREAD, SOON = 100_000, 2
+# how many bytes a peer sends once it is refused, in how many pieces, a moment after one another: the system tells of a
+# connection that is closed at the piece after the first. How long the next peer may wait, in seconds
+UNSENT, PIECES, MOMENT, SOON = 100_000, 10, 0.005, 2
 # how many postings make a long reply, and how slowly that is read: the bytes of a piece, and the seconds before each of
 # the first pieces
 POSTINGS, PIECE, PAUSE, PAUSES = 20_000, 65536, 0.02, 20
@@ -58,16 +59,12 @@ def order_sent_twice(book, report):
 
 
 def refused_peers(book, report):
-    """A peer that is refused before most of what it sent was read, and the next one, while the first stays."""
+    """A peer that is refused before it has sent all, and the next one, while the first stays."""
     reading = desks.request("GET", "/account", desks.KEYS["ALFA"])
     account = reply_of(desks.desk("account", book, "ALFA").strip())
-    refused = desks.request("POST", "/none", desks.KEYS["ALFA"], "x" * UNREAD)
     with desks.Server(book, 3) as server:
-        with socket.socket() as peer:
-            peer.setsockopt(socket.SOL_SOCKET, socket.SO_SNDBUF, 4 * UNREAD)
-            peer.settimeout(desks.SECONDS)
-            peer.connect(("127.0.0.1", server.port))
-            report.sees("the reply to a refused peer", read_after(peer, refused), reply_of(REFUSAL, "404 Not Found"))
+        with socket.create_connection(("127.0.0.1", server.port), timeout=desks.SECONDS) as peer:
+            report.sees("the reply to a refused peer", refused_early(peer), reply_of(REFUSAL, "404 Not Found"))
             start = time.monotonic()
             report.sees("the reply after a refused peer", said_to(server.port, reading), account)
             report.sees("a reply that is there soon after a refused peer", time.monotonic() - start < SOON, True)
@@ -87,6 +84,20 @@ def read_after(peer, sent, pauses=0):
     except OSError as why:
         return str(why)
     return reply.decode()
+
+
+def refused_early(peer):
+    """Returns what a peer reads that sends most of its request once it is refused, or how the connection broke."""
+    request, rest = desks.request("POST", "/none", desks.KEYS["ALFA"], "x" * UNSENT), UNSENT // PIECES
+    try:
+        peer.sendall(request[:-UNSENT])
+        peer.recv(1, socket.MSG_PEEK)
+        for _ in range(PIECES - 1):
+            peer.sendall(request[-rest:])
+            time.sleep(MOMENT)
+    except OSError as why:
+        return str(why)
+    return read_after(peer, request[-rest:])
 
 
 def slow_reader(book, report):
