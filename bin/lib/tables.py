@@ -37,8 +37,9 @@ def sizes():
              for kind, (folder, end) in counting.KINDS.items()}
     found = {kind: [it for it in of if not counting.is_of_tests(it)] for kind, of in files.items()}
     found["code of tests"] = [it for it in files["code"] if counting.is_of_tests(it)]
-    found["definitions that the headline reaches"] = [it for of in counting.headline().values() for it in of]
-    rows = [f"| {what} | {rounded(counting.lines_of(of))} |" for what, of in found.items()]
+    lines = {what: counting.lines_of(of) for what, of in found.items()}
+    lines["definitions and types that the headline reaches"] = counting.headline_lines()
+    rows = [f"| {what} | {rounded(number)} |" for what, number in lines.items()]
     return "\n".join(["| what | lines, to two digits |", "|---|---|", *rows])
 
 

@@ -1,5 +1,6 @@
 """The script that lists the definitions of the promises, over a small tree: two public modules and a private one."""
 import os
+import re
 import shutil
 import subprocess
 import unittest
@@ -46,6 +47,55 @@ IsLater n = day n ≡ 2
 """
 DAYS = "abbrev pub day : ℕ → ℕ\nday n = n\n"
 OWN = "use Rattle.rtgs_book.specs.Books.{IsBook}\nabbrev pub IsOwn : ℕ → Type 0\nIsOwn n = IsBook n\n"
+# what is passed on: a file, a definition under another name, a type by a file of definitions, and one by a crate's root
+PASSED = {
+    "rtgs_book/specs/Lib.antt": "pub mod Books\npub use Rattle.rtgs_lists.specs.Sums\n",
+    "rtgs_lists/specs/Sums.antt": "abbrev pub sum : ℕ → ℕ\nsum n = n\n",
+    "rtgs_book/specs/Marks.antt":
+        "pub use Rattle.rtgs_book.specs.Days.{day as date}\npub use Rattle.rtgs_book.specs.declared.mark.Mark.{Mark}\n",
+    "rtgs_book/src/lib.rt": "mod mark;\n\npub use crate::mark::Mark;\npub use rtgs_lists::Rows;\n",
+    "rtgs_book/src/mark.rt": "use rtgs_lists::Count;\n\n/// A mark.\npub struct Mark {\n    pub count: Count,\n}\n\n"
+                             "/// Is no type.\npub fn marked() {\n}\n",
+    "rtgs_lists/src/lib.rt": "mod counts;\n\npub use counts::{\n    Count, Rows,\n};\n",
+    "rtgs_lists/src/counts.rt": "/// How many.\npub struct Count(u64);\n\n/// Rows.\npub enum Rows {\n    One,\n}\n",
+}
+# each name of them, and what it leads to
+BY_NAME = {
+    "Rattle.rtgs_book.specs.Sums.{sum}": ("sum 1 ≡ 1", "rtgs_lists Sums", 2),
+    "Rattle.rtgs_book.specs.Sums as sums": ("sums.sum 1 ≡ 1", "rtgs_lists Sums", 2),
+    "Rattle.rtgs_book.specs.Marks.{date}": ("date 1 ≡ 1", "rtgs_book Days", 2),
+    "Rattle.rtgs_book.specs.Marks.{Mark}": ("(it : Mark) → ⊤", "rtgs_book mark.rt; rtgs_lists counts.rt", 4),
+    "Rattle.rtgs_book.specs.declared.Mark.{Mark}": ("(it : Mark) → ⊤", "rtgs_book mark.rt; rtgs_lists counts.rt", 4),
+}
+MODELLED = """//! A key.
+ghost use Rattle.rtgs_lists.specs.Sums.{sum};
+use crate::mark::Mark;
+use rtgs_lists::{Count, Rows};
+
+/// Contracts see the count.
+pub struct Key {
+    count: Count,
+    mark: Mark,
+}
+
+impl Model for Key {
+    ghost use Rattle.rtgs_book.specs.Days.{day};
+
+    ghost Value = { ℕ };
+
+    ghost view = { λ k. day k.count };
+
+    ghost invariant = { λ k. sum k.count ≡ 1 };
+}
+
+/// What has one.
+pub trait Keyed {
+    // Its kind.
+    ghost kind: { Self → Rows };
+
+    fn key(&self) -> Mark;
+}
+"""
 
 
 class Promises(unittest.TestCase):
@@ -74,7 +124,8 @@ class Promises(unittest.TestCase):
         return ran.returncode, ran.stdout.splitlines()
 
     def test_the_lists_of_each_public_module_are_written_once(self):
-        counts = ["  2 first::one", "  3 second::both", "  0 second::none"]
+        counts = ["  2 files     9 lines first::one", "  3 files    12 lines second::both",
+                  "  0 files     0 lines second::none"]
         self.assertEqual(self.run_script(), (0, counts))
         self.assertIn("// To judge it, read these 2 files: rtgs_book Books, Days.\npub fn one()",
                       self.read("first"))
@@ -96,3 +147,53 @@ class Promises(unittest.TestCase):
         self.assertNotEqual(self.read("second"), right)
         self.run_script()
         self.assertEqual(self.read("second"), right)
+
+    def reading(self, used, contract):
+        """Writes a module with this contract, and returns what the script then does and the list that it writes."""
+        self.write("rtgs_promises/src/second.rt",
+                   f"{used}\n\n/// Says so.\npub fn both()\n    ensures {{ {contract} }}\n{{}}\n")
+        ran = subprocess.run([f"{self.top}/bin/promises"], capture_output=True, text=True, check=False)
+        said = re.search(r"^// (To judge it.*)\npub fn both", self.read("second"), re.M)
+        return ran, said and said[1]
+
+    def test_what_another_file_or_crate_passes_on_is_found_where_it_stands(self):
+        for name, text in PASSED.items():
+            self.write(name, text)
+        for path, (contract, files, lines) in BY_NAME.items():
+            ran, said = self.reading(f"ghost use {path};", contract)
+            count = len(re.findall(r"\w+\.rt|[A-Z]\w+", files))
+            these = "this file" if count == 1 else f"these {count} files"
+            self.assertEqual((ran.returncode, said), (0, f"To judge it, read {these}: {files}."), path)
+            self.assertIn(f"{count:3} files {lines:5} lines second::both", ran.stdout)
+
+    def test_types_that_a_signature_names_are_read_too(self):
+        for name, text in PASSED.items():
+            self.write(name, text)
+        for path in ("rtgs_book::Rows", "rtgs_book::{Rows}", "rtgs_lists::Rows", "rtgs_lists::counts::Rows"):
+            ran, said = self.reading(f"use {path};", "(it : Rows) → ⊤")
+            self.assertEqual((ran.returncode, said), (0, "To judge it, read this file: rtgs_lists counts.rt."), path)
+        ran, said = self.reading("use rtgs_book::mark::marked;", "marked ≡ marked")
+        self.assertEqual((ran.returncode, said), (0, "To judge it, read no file."))
+
+    def test_of_a_type_counts_what_contracts_see_and_of_a_trait_its_members(self):
+        for name, text in {**PASSED, "rtgs_book/src/key.rt": MODELLED}.items():
+            self.write(name, text)
+        ran, said = self.reading("use rtgs_book::key::Key;", "(it : Key) → ⊤")
+        self.assertEqual(said, "To judge it, read these 3 files: rtgs_book Days, key.rt; rtgs_lists counts.rt.", ran)
+        ran, said = self.reading("use rtgs_book::key::Keyed;", "(it : Keyed) → ⊤")
+        self.assertEqual(said, "To judge it, read these 2 files: rtgs_book key.rt; rtgs_lists counts.rt.", ran)
+
+    def test_a_name_that_is_not_found_ends_the_run_and_nothing_is_written(self):
+        for name, text in PASSED.items():
+            self.write(name, text)
+        for used, contract, name in (
+                ("ghost use Rattle.rtgs_book.specs.None.{IsNone};", "IsNone 1", "IsNone"),
+                ("ghost use Rattle.rtgs_book.specs.Books.{IsNone};", "IsNone 1", "IsNone"),
+                ("ghost use Rattle.rtgs_book.specs.Books as books;", "books.IsNone 1", "IsNone"),
+                ("ghost use Rattle.rtgs_book.proofs.Books.{lemma};", "lemma 1", "lemma"),
+                ("ghost use Rattle.rtgs_book.specs.declared.mark.None.{None};", "(it : None) → ⊤", "None"),
+                ("use rtgs_book::None;", "(it : None) → ⊤", "None")):
+            ran, said = self.reading(used, contract)
+            self.assertEqual((ran.returncode, ran.stdout, said), (1, "", None), used)
+            self.assertIn(f"{name} is not found", ran.stderr)
+            self.assertEqual(self.read("first"), FIRST)

@@ -1,8 +1,11 @@
 //! What follows for a book from the definitions of the commands, whatever keeps it. All are laws, except the call of
 //! the resolver: a law's function does nothing, and its contract is the law.
 //!
-//! "The ten of a command" are those that say what a command does to a book: of `rtgs_book` Books, Lookup, Balance,
-//! Queue, Choice, Settle, Outcome, Commands and Step, and of `rtgs_money` Date.
+//! "The files of a command" say what a command does to a book: rtgs_book Balance, Books, Choice, Commands, Lookup,
+//! Outcome, Queue, Settle, Step, answer.rt, book.rt, command.rt, day.rt, limits.rt, mark.rt, new_day.rt, new_order.rt,
+//! order.rt, order_state.rt, participant.rt, phase.rt, posting.rt, refusal.rt, rows.rt; rtgs_lists IntSum; rtgs_money
+//! Date, amount.rt, cents.rt, code.rt, credit.rt, date.rt, key_digest.rt, name.rt, posting_amount.rt, reference.rt,
+//! text.rt.
 ghost use Rattle.std.specs.Prelude.{◌≡◌, List, ◌≤◌, ◌+◌, ◌*◌, length, slice_index, ◌+ℤ◌, ◌≤ℤ◌, true, ℕ, [], ◌++◌};
 ghost use Rattle.std.specs.Prelude.{filter, take, Ok};
 ghost use Rattle.std.specs.List.{AllByRecursion};
@@ -51,7 +54,7 @@ use rtgs_laws::repeats::laws::{
 
 /// **Promise 3, and there is but one.** From a sound book each list of commands has exactly one list of replies and one
 /// book after it, which is sound again.
-// To judge it, read these 12 files: rtgs_book Soundness, Run; the ten of a command.
+// To judge it, read these 38 files: the files of a command; rtgs_book Soundness, Run.
 pub fn commands_have_one_run()
     ensures some { (start : Book) (commands : List Command) → IsSound start
         → (replies : List Reply) × (last : Book) × Run start commands replies last × IsSound last }
@@ -67,7 +70,7 @@ pub fn commands_have_one_run()
 /// of queue beginnings that leaves nobody below its floor, or there was nothing to settle: one that is asked for, and
 /// one that follows a command on an automatic day. There is exactly one such choice. No command leaves anybody below
 /// its floor.
-// To judge it, read these 13 files: rtgs_promises Headline; the ten of a command; rtgs_book Run, Soundness.
+// To judge it, read these 39 files: the files of a command; rtgs_promises Headline; rtgs_book Run, Soundness.
 pub fn each_resolution_settles_the_greatest_choice()
     ensures one { (old new : Book) (command : Command) (reply : Reply) → Step old command reply new
         → Resolves old command reply new }
@@ -89,7 +92,7 @@ pub fn each_resolution_settles_the_greatest_choice()
 /// **Promise 6. An automatic day leaves nothing that could settle.** After a command that a resolution follows, no
 /// choice of queued orders could be settled, whatever was before. Once that is so it stays so, whatever is commanded,
 /// and over any number of crashes, in each book that one of them left.
-// To judge it, read these 14 files: the ten of a command; rtgs_book Soundness, Calm, Run, Session.
+// To judge it, read these 40 files: the files of a command; rtgs_book Soundness, Calm, Run, Session.
 pub fn an_automatic_day_leaves_nothing_to_settle()
     ensures followed { (old new : Book) (command : Command) (reply : Reply) → IsSound old
         → (s : Step old command reply new) → is_followed command s.0 ≡ true → IsCalm new }
@@ -108,7 +111,7 @@ pub fn an_automatic_day_leaves_nothing_to_settle()
 
 /// **Promise 7. Money is neither made nor lost.** All balances together are what was posted, and accepted postings
 /// alone move their sum.
-// To judge it, read these 14 files: rtgs_book Soundness, Run, Laws; the ten of a command; rtgs_laws repeats.Lasting.
+// To judge it, read these 40 files: the files of a command; rtgs_book Soundness, Run, Laws; rtgs_laws repeats.Lasting.
 pub fn money_is_what_was_posted()
     ensures posted { (book : Book) → IsSound book → total book ≡ issued book }
     ensures moved { (start last : Book) (commands : List Command) (replies : List Reply) → IsSound start
@@ -121,7 +124,7 @@ pub fn money_is_what_was_posted()
 /// **Promise 8. What is final stays.** A mark and a settled order stand unchanged in every later book. So do a
 /// participant's name and key, a posting, and of each order its number and all that it said when sent: receiver, amount
 /// and due date.
-// To judge it, read these 15 files: the ten of a command; rtgs_book Soundness, Run, Laws, Procedure; rtgs_laws
+// To judge it, read these 41 files: the files of a command; rtgs_book Soundness, Run, Laws, Procedure; rtgs_laws
 // repeats.Kept.
 pub fn what_is_final_stays()
     ensures settled { (old new : Book) (commands : List Command) (replies : List Reply) → IsSound old
@@ -135,7 +138,7 @@ pub fn what_is_final_stays()
 
 /// **Promise 9. Nothing settles before its due date.** No order is settled under a mark that is dated before the
 /// order's due date, in no sound book, and so in none to which commands lead from one.
-// To judge it, read these 14 files: rtgs_book Soundness, Laws, Run, Procedure; the ten of a command.
+// To judge it, read these 40 files: the files of a command; rtgs_book Soundness, Laws, Run, Procedure.
 pub fn nothing_settles_early()
     ensures sound { (book : Book) → IsSound book → NothingSettlesEarly book }
     ensures later { (start last : Book) (commands : List Command) (replies : List Reply) → IsSound start
@@ -148,7 +151,7 @@ pub fn nothing_settles_early()
 /// **Promise 10. What is sent twice acts once.** An addition, posting, order or withdrawal that was accepted is
 /// answered as a repeat whenever it comes again, with the number that it was answered, and changes nothing. Of each
 /// order and posting one is enough: the list without the others ends in the same book, with the same replies.
-// To judge it, read these 15 files: the ten of a command; rtgs_book Soundness, Run; rtgs_laws repeats.Repeats,
+// To judge it, read these 41 files: the files of a command; rtgs_book Soundness, Run; rtgs_laws repeats.Repeats,
 // repeats.Lasting, repeats.Once.
 pub fn what_is_sent_twice_acts_once()
     ensures known { (old new : Book) (command : Command) (reply : Reply) → IsSound old → acts_once command ≡ true
@@ -164,7 +167,7 @@ pub fn what_is_sent_twice_acts_once()
 /// **Promise 11. A batch can be sent again.** A batch of orders of one sender that stopped anywhere, also by a crash,
 /// and is sent again from its first, ends as if it had been sent once. The order at which it stopped may have acted or
 /// not. On an automatic day no order before the stop may have met a full queue: it could be taken the second time.
-// To judge it, read these 14 files: rtgs_book Run, Soundness, Session; the ten of a command; rtgs_laws repeats.Batch.
+// To judge it, read these 40 files: the files of a command; rtgs_book Run, Soundness, Session; rtgs_laws repeats.Batch.
 pub fn a_batch_sent_again_ends_as_if_sent_once()
     ensures { (start mid found last end : Book) (sender : List ℕ) (first rest : List Command)
         (said again once : List Reply) → IsSound start → AllByRecursion (IsOrderOf sender) (first ++ rest)
@@ -177,8 +180,11 @@ pub fn a_batch_sent_again_ends_as_if_sent_once()
 
 /// **Promise 14. A resolution takes few steps.** With n participants and q queued orders the resolver finds the book's
 /// greatest choice in at most n + 3q steps, a step being one cover test or one removal.
-// To judge it, read these 11 files: rtgs_gridlock Choices, Workspaces; rtgs_book Soundness, Choice, Lookup, Books,
-// Queue, Settle, Balance; rtgs_choices ByIndex; rtgs_money Date.
+// To judge it, read these 38 files: rtgs_gridlock Choices, Workspaces, Fundings, positions.rt, queues.rt, workspace.rt,
+// fundings.rt, worklist.rt; rtgs_book Soundness, Choice, Lookup, Books, Queue, Settle, Balance, book.rt, rows.rt,
+// participant.rt, posting.rt, order.rt, mark.rt, day.rt, order_state.rt, phase.rt, limits.rt; rtgs_choices ByIndex;
+// rtgs_money Date, code.rt, name.rt, key_digest.rt, credit.rt, reference.rt, posting_amount.rt, date.rt, amount.rt,
+// cents.rt, text.rt; rtgs_lists IntSum.
 pub fn the_greatest_choice_takes_few_steps(
     positions: &Positions,
     queues: &Queues,
@@ -196,7 +202,7 @@ pub fn the_greatest_choice_takes_few_steps(
 
 /// **Promise 14. And a close rejects deadlocks alone.** When a day is closed, no order that was still queued could have
 /// been settled by a resolution. The answer counts those that were queued.
-// To judge it, read these 10 files: the ten of a command.
+// To judge it, read these 36 files: the files of a command.
 pub fn a_close_rejects_deadlocks_alone()
     ensures choice { (old new : Book) (date count : ℕ) (choice : Choice)
         → Step old (CloseDay date) (alone (Ok (Closed count))) new → IsGreatest old choice → chosen old choice ≡ [] }

@@ -1,8 +1,12 @@
 //! What a desk answers and keeps: its runs, its tables, a batch that is sent twice, and openings.
 //!
-//! "The ten of a command" are those that say what a command does to a book: of `rtgs_book` Books, Lookup, Balance,
-//! Queue, Choice, Settle, Outcome, Commands and Step, and of `rtgs_money` Date. What the `sqlite` crate calls a
-//! database, and what it may leave after a crash (`may_leave`), is that crate's.
+//! "The files of a command" say what a command does to a book: rtgs_book Balance, Books, Choice, Commands, Lookup,
+//! Outcome, Queue, Settle, Step, answer.rt, book.rt, command.rt, day.rt, limits.rt, mark.rt, new_day.rt, new_order.rt,
+//! order.rt, order_state.rt, participant.rt, phase.rt, posting.rt, refusal.rt, rows.rt; rtgs_lists IntSum; rtgs_money
+//! Date, amount.rt, cents.rt, code.rt, credit.rt, date.rt, key_digest.rt, name.rt, posting_amount.rt, reference.rt,
+//! text.rt.
+//!
+//! What the `sqlite` crate calls a database, and what it may leave after a crash (`may_leave`), is that crate's.
 ghost use Rattle.std.specs.Prelude.{◌≡◌, false, List, IfOk, IsTrue, length, IfErr, OnErr, ◌≢◌, true, None, ◌⊎◌};
 ghost use Rattle.std.specs.List.{AllByRecursion};
 ghost use Rattle.sqlite.specs.Held.{state};
@@ -46,8 +50,10 @@ use std::alloc::{AllocError, Global};
 /// replies, and lead to the book that the desk then holds. The store fails once at most, and then nothing more is done.
 /// Whatever a crash leaves then is that book, or that book after the one command that met the fault. Without memory for
 /// the replies nothing is done. This holds over any keeper with the trait's laws.
-// To judge it, read these 20 files: rtgs_desk Holding, Replies, Seen; rtgs_book Run, Session, Calm, cores.Cores,
-// Soundness, Ranges; the ten of a command; rtgs_money Amounts.
+// To judge it, read these 61 files: the files of a command; rtgs_desk Holding, Replies, Seen, desk.rt; rtgs_book Run,
+// Session, Calm, cores.Cores, Soundness, Ranges, fault.rt, cores/cores.rt, rule.rt, account.rt; rtgs_keeper Still,
+// keeper.rt; rtgs_records Held, Records, accounts.Accounts, queues.Orders, records.rt, accounts/accounts.rt,
+// queues/orders.rt; rtgs_money Amounts; rtgs_ledger ledger.rt.
 pub fn answers_are_the_definitions_run<K: Keeper>(
     desk: &mut Desk<K>,
     commands: &[Command],
@@ -67,9 +73,16 @@ pub fn answers_are_the_definitions_run<K: Keeper>(
 
 /// **Promise 4. The tables are the book's rows.** Whatever a crash leaves of a desk at rest are the tables of the book
 /// that it holds, and nothing else.
-// To judge it, read these 23 files: rtgs_promises Headline; rtgs_desk Holding, Seen; rtgs_book Calm, cores.Cores,
-// Books, Choice, Balance, Soundness, Ranges, Queue, Lookup, Settle; rtgs_rows Content, Keeping, Fitting, Tables, Dues,
-// Rows; rtgs_money Amounts, Date, Forms, Digits.
+// To judge it, read these 81 files: rtgs_promises Headline; rtgs_desk Holding, Seen, desk.rt; rtgs_book Calm,
+// cores.Cores, Books, Choice, Balance, Soundness, Ranges, Queue, Lookup, Judgement, Settle, book.rt, rows.rt,
+// participant.rt, posting.rt, order.rt, mark.rt, day.rt, fault.rt, order_state.rt, phase.rt, cores/cores.rt, rule.rt,
+// account.rt, limits.rt; rtgs_keeper Still, keeper.rt; rtgs_rows Keeping, Querying, Content, Tables, RowLaws, Settling,
+// Fitting, TableRecords, Dues, Rows, numbers.rt, forward.rt, resolution_row.rt, desk_row.rt; rtgs_sql_columns Blank,
+// Tables, Numbers, OneTable; rtgs_tables Loading, Between, sql_keeper.rt; rtgs_records Held, Records,
+// accounts.Accounts, queues.Orders, records.rt, accounts/accounts.rt, queues/orders.rt; rtgs_sql_queries Records,
+// Displaying, TableQueries; rtgs_sql_loading Accounts, Displaying, Joining; rtgs_lists IntSum; rtgs_money Amounts,
+// Date, Forms, Digits, code.rt, name.rt, key_digest.rt, credit.rt, reference.rt, posting_amount.rt, date.rt, amount.rt,
+// cents.rt, text.rt; rtgs_ledger ledger.rt.
 pub fn tables_are_exactly_the_book<S: Alter + Drop>(desk: &Desk<SqlKeeper<S>>)
     ensures { (book : Book) → Holds ⟦<SqlKeeper<S> as Keeper>⟧ desk.now book
         → LeavesExactly book (state S.Store desk.now.keeper.conn) }
@@ -80,8 +93,10 @@ pub fn tables_are_exactly_the_book<S: Alter + Drop>(desk: &Desk<SqlKeeper<S>>)
 
 /// **Promise 6, as a call: a command and what follows it are one.** Wherever the store fails, a crash leaves the book
 /// before the command, or the one after it and after all that it let settle, and never one between them.
-// To judge it, read these 17 files: rtgs_desk Holding, Seen; the ten of a command; rtgs_book Calm, cores.Cores,
-// Soundness, Ranges; rtgs_money Amounts.
+// To judge it, read these 58 files: the files of a command; rtgs_desk Holding, Seen, desk.rt; rtgs_book Calm,
+// cores.Cores, Soundness, Ranges, fault.rt, cores/cores.rt, rule.rt, account.rt; rtgs_keeper Still, keeper.rt;
+// rtgs_records Held, Records, accounts.Accounts, queues.Orders, records.rt, accounts/accounts.rt, queues/orders.rt;
+// rtgs_money Amounts; rtgs_ledger ledger.rt.
 pub fn a_command_and_what_follows_are_one<K: Keeper>(
     desk: &mut Desk<K>,
     command: Command,
@@ -96,8 +111,11 @@ pub fn a_command_and_what_follows_are_one<K: Keeper>(
 
 /// **Promise 7, in whatever a crash leaves.** Whichever book this is, the stored balances add up to the postings'
 /// cents.
-// To judge it, read these 16 files: rtgs_rows Keeping, Content, Fitting, Tables, Dues, Rows; rtgs_book Balance,
-// Soundness, Books, Lookup, Queue, Settle; rtgs_money Date, Forms, Amounts, Digits.
+// To judge it, read these 41 files: rtgs_rows Keeping, Content, Fitting, Tables, Dues, Rows, forward.rt, numbers.rt,
+// desk_row.rt, resolution_row.rt; rtgs_lists IntSum; rtgs_book Balance, Soundness, Books, Lookup, Queue, Settle,
+// book.rt, day.rt, posting.rt, order.rt, mark.rt, rows.rt, participant.rt, phase.rt, order_state.rt, limits.rt;
+// rtgs_money Date, Forms, Amounts, Digits, date.rt, code.rt, reference.rt, posting_amount.rt, amount.rt, cents.rt,
+// name.rt, key_digest.rt, credit.rt, text.rt.
 pub fn stored_money_is_what_was_posted<S: Alter>(conn: &Connection<S>)
     ensures { IsWhole S.Store conn.now → (trees : Trees) → (state S.Store conn.now).may_leave trees
         → (content : Content) × HoldsRows content trees × AddsUp content }
@@ -107,8 +125,14 @@ pub fn stored_money_is_what_was_posted<S: Alter>(conn: &Connection<S>)
 
 /// **Promise 11, as a call.** A batch is sent, the desk stops, is opened again, and the whole batch is sent once more.
 /// If this sending reaches its end, the desk holds the book that one sending would have made.
-// To judge it, read these 19 files: rtgs_book Run, Calm, cores.Cores, Soundness, Ranges; the ten of a command;
-// rtgs_desk Holding, batches.Batches, Seen; rtgs_money Amounts.
+// To judge it, read these 92 files: the files of a command; rtgs_book Run, Calm, cores.Cores, Soundness, Ranges,
+// Judgement, fault.rt, rule.rt, cores/cores.rt, account.rt; rtgs_desk Holding, batches.Batches, Seen, desk.rt;
+// rtgs_keeper Still, keeper.rt; rtgs_rows Keeping, Querying, Content, Tables, RowLaws, Settling, Fitting, TableRecords,
+// Dues, Rows, numbers.rt, forward.rt, resolution_row.rt, desk_row.rt; rtgs_sql_columns Blank, Tables, Numbers,
+// OneTable; rtgs_tables Loading, Between, sql_keeper.rt; rtgs_records Held, Records, accounts.Accounts, queues.Orders,
+// records.rt, accounts/accounts.rt, queues/orders.rt; rtgs_sql_queries Records, Displaying, TableQueries;
+// rtgs_sql_loading Accounts, Displaying, Joining; rtgs_money Amounts, Forms, Digits; rtgs_promises sessions.rt;
+// rtgs_order_files batch_result.rt; rtgs_ledger ledger.rt.
 pub fn send_a_batch_twice<S: Alter + Reopen + Drop>(
     alloc: Global,
     desk: Desk<SqlKeeper<S>>,
@@ -135,11 +159,17 @@ pub fn send_a_batch_twice<S: Alter + Reopen + Drop>(
 /// show, and if they held a book it is calm. Where there is none, the fault is 90, 91, 93 or 94, and it is explained by
 /// what the tables show; tables that hold a calm book are refused with 90 or 91 alone, and those that hold another also
 /// as not calm. Whatever it answers, the tables stay as they were found.
-// To judge it, read these 34 files: rtgs_promises Openings; rtgs_desk Holding, Seen; rtgs_book Soundness, Calm,
-// cores.Cores, Books, Choice, Refusals, Ranges, Lookup, Queue, Settle, Balance, Judgement; rtgs_sql_loading Displaying,
-// Accounts, Joining; rtgs_book_file stored_desk.Stored; rtgs_rows Keeping, Content, Fitting, Dues, TableRecords,
-// Tables, Rows; rtgs_sql_queries Displaying; rtgs_sql_columns Tables, Numbers; rtgs_refusals Table; rtgs_money Date,
-// Amounts, Forms, Digits.
+// To judge it, read these 86 files: rtgs_promises Openings; rtgs_desk Holding, Seen, desk.rt; rtgs_book Soundness,
+// Calm, cores.Cores, Books, Choice, Refusals, Ranges, Lookup, Queue, Settle, Balance, Judgement, book.rt, fault.rt,
+// rule.rt, rows.rt, participant.rt, posting.rt, order.rt, mark.rt, day.rt, account.rt, order_state.rt, phase.rt,
+// cores/cores.rt, limits.rt; rtgs_sql_loading Displaying, Accounts, Joining; rtgs_book_file stored_desk.Stored;
+// rtgs_rows Keeping, Content, Querying, Fitting, Dues, TableRecords, Tables, RowLaws, Settling, Rows, numbers.rt,
+// forward.rt, desk_row.rt, resolution_row.rt; rtgs_sql_queries Displaying, Records, TableQueries; rtgs_sql_columns
+// Tables, Blank, Numbers, OneTable; rtgs_keeper Still, keeper.rt; rtgs_tables Loading, Between, sql_keeper.rt;
+// rtgs_refusals Table, refusal_kind.rt, exit_status.rt; rtgs_money Date, Amounts, Forms, Digits, code.rt, name.rt,
+// key_digest.rt, credit.rt, reference.rt, posting_amount.rt, date.rt, amount.rt, cents.rt, text.rt; rtgs_records Held,
+// Records, accounts.Accounts, queues.Orders, records.rt, accounts/accounts.rt, queues/orders.rt; rtgs_lists IntSum;
+// rtgs_ledger ledger.rt.
 pub fn opens_a_sound_book_or_names_a_fault<S: Alter + Drop>(
     alloc: Global,
     conn: Connection<S>,

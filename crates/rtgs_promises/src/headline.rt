@@ -1,11 +1,15 @@
 //! The headline: what a desk answers and keeps over any number of sessions and stops.
 //!
-//! Each promise of this crate has a sentence, then its contract, and between them the definitions that a reader has to
-//! judge, in reading order: the files in the `specs/` of each crate, as far as the contract reaches them.
+//! Each promise of this crate has a sentence, then its contract, and between them what a reader has to judge, as far as
+//! the contract reaches it: the files in the `specs/` of each crate, and the types in those of its `src/` (`.rt`).
 //!
-//! "The ten of a command" are those that say what a command does to a book: of `rtgs_book` Books, Lookup, Balance,
-//! Queue, Choice, Settle, Outcome, Commands and Step, and of `rtgs_money` Date. What the `sqlite` crate calls a
-//! database, and what it may leave after a crash (`may_leave`), is that crate's.
+//! "The files of a command" say what a command does to a book: rtgs_book Balance, Books, Choice, Commands, Lookup,
+//! Outcome, Queue, Settle, Step, answer.rt, book.rt, command.rt, day.rt, limits.rt, mark.rt, new_day.rt, new_order.rt,
+//! order.rt, order_state.rt, participant.rt, phase.rt, posting.rt, refusal.rt, rows.rt; rtgs_lists IntSum; rtgs_money
+//! Date, amount.rt, cents.rt, code.rt, credit.rt, date.rt, key_digest.rt, name.rt, posting_amount.rt, reference.rt,
+//! text.rt.
+//!
+//! What the `sqlite` crate calls a database, and what it may leave after a crash (`may_leave`), is that crate's.
 ghost use Rattle.std.specs.Prelude.{◌≡◌, false, map, IfOk, IsTrue, IfErr};
 ghost use Rattle.sqlite.specs.Held.{state};
 ghost use Rattle.sqlite.specs.State.{HasCleanDisk};
@@ -53,8 +57,12 @@ use std::alloc::Global;
 /// The function makes the tables, and goes on as `live`, over any store. Premises: nobody else writes the file, and
 /// the disk gives back what was written to it (`HasCleanDisk`, `IsClean`); and the database was just opened and has
 /// nothing in it (`IsEmpty`).
-// To judge it, read these 24 files: rtgs_promises Headline; the ten of a command; rtgs_book Session, Run, Calm, Laws,
-// Soundness, Procedure; rtgs_laws repeats.Lives; rtgs_rows Content, Keeping, Tables, Dues, Rows; rtgs_money Digits.
+// To judge it, read these 72 files: the files of a command; rtgs_promises Headline, sessions.rt; rtgs_book Session,
+// Run, Calm, Laws, Soundness, Procedure, fault.rt, cores/cores.rt, rule.rt, account.rt; rtgs_laws repeats.Lives;
+// rtgs_rows Content, Keeping, Tables, Dues, Rows, forward.rt, numbers.rt, desk_row.rt, resolution_row.rt; rtgs_desk
+// Seen, desk.rt; rtgs_keeper Still, keeper.rt; rtgs_records Held, Records, accounts.Accounts, queues.Orders,
+// records.rt, accounts/accounts.rt, queues/orders.rt; rtgs_money Digits; rtgs_tables sql_keeper.rt; rtgs_ledger
+// ledger.rt.
 pub fn make_and_live<S: Alter + Reopen + Drop>(
     alloc: Global,
     conn: Connection<S>,
@@ -85,9 +93,14 @@ pub fn make_and_live<S: Alter + Reopen + Drop>(
 ///
 /// The function opens a desk, gives it the commands of a session, ends that in order, or by a crash wherever its store
 /// then is (a store may fail from any call on, and so inside any write), opens it again over what this left, and so on.
-// To judge it, read these 32 files: rtgs_promises Headline; rtgs_book_file stored_desk.Stored; rtgs_desk Holding, Seen;
-// rtgs_book Calm, Session, Run, Laws, Soundness, Procedure, cores.Cores, Ranges; the ten of a command; rtgs_laws
-// repeats.Lives; rtgs_rows Content, Keeping, Fitting, Tables, Dues, Rows; rtgs_money Forms, Amounts, Digits.
+// To judge it, read these 96 files: the files of a command; rtgs_promises Headline, sessions.rt; rtgs_book_file
+// stored_desk.Stored; rtgs_desk Holding, Seen, desk.rt; rtgs_book Calm, Session, Run, Laws, Soundness, Procedure,
+// cores.Cores, Ranges, Judgement, fault.rt, cores/cores.rt, rule.rt, account.rt; rtgs_laws repeats.Lives; rtgs_rows
+// Content, Keeping, Querying, Fitting, Tables, RowLaws, Settling, TableRecords, Dues, Rows, forward.rt, numbers.rt,
+// resolution_row.rt, desk_row.rt; rtgs_keeper Still, keeper.rt; rtgs_sql_columns Blank, Tables, Numbers, OneTable;
+// rtgs_tables Loading, Between, sql_keeper.rt; rtgs_records Held, Records, accounts.Accounts, queues.Orders,
+// records.rt, accounts/accounts.rt, queues/orders.rt; rtgs_sql_queries Records, Displaying, TableQueries;
+// rtgs_sql_loading Accounts, Displaying, Joining; rtgs_money Forms, Amounts, Digits; rtgs_ledger ledger.rt.
 pub fn live<S: Alter + Reopen + Drop>(
     alloc: Global,
     conn: Connection<S>,
@@ -136,8 +149,14 @@ pub fn live<S: Alter + Reopen + Drop>(
 }
 
 /// **Promise 1, in memory.** The headline over a database in memory, from the empty one: no premise is left.
-// To judge it, read these 23 files: rtgs_promises Headline; rtgs_desk Holding, Seen; the ten of a command; rtgs_book
-// Session, Run, Calm, Laws, Soundness, Procedure, cores.Cores, Ranges; rtgs_laws repeats.Lives; rtgs_money Amounts.
+// To judge it, read these 95 files: the files of a command; rtgs_promises Headline, sessions.rt; rtgs_desk Holding,
+// Seen, desk.rt; rtgs_book Session, Run, Calm, Laws, Soundness, Procedure, cores.Cores, Ranges, Judgement, fault.rt,
+// rule.rt, cores/cores.rt, account.rt; rtgs_laws repeats.Lives; rtgs_keeper Still, keeper.rt; rtgs_rows Keeping,
+// Querying, Content, Tables, RowLaws, Settling, Fitting, TableRecords, Dues, Rows, numbers.rt, forward.rt,
+// resolution_row.rt, desk_row.rt; rtgs_sql_columns Blank, Tables, Numbers, OneTable; rtgs_tables Loading, Between,
+// sql_keeper.rt; rtgs_records Held, Records, accounts.Accounts, queues.Orders, records.rt, accounts/accounts.rt,
+// queues/orders.rt; rtgs_sql_queries Records, Displaying, TableQueries; rtgs_sql_loading Accounts, Displaying, Joining;
+// rtgs_money Amounts, Forms, Digits; rtgs_ledger ledger.rt.
 pub fn live_in_memory(
     alloc: Global,
     sessions: &[PlannedSession],

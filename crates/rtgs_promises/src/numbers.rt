@@ -24,7 +24,9 @@ ghost use Rattle.rtgs_rows.specs.declared.numbers.TheConstants.{VERSION};
 
 /// **Promise 16. Each limit is this number.** Those of a book; of its amounts, in cents; of names and keys, in bytes;
 /// of dates, by their years; of order files; and of requests.
-// To judge it, read this file: rtgs_money Amounts.
+// To judge it, read these 15 files: rtgs_money Amounts, code.rt, reference.rt, name.rt, key.rt, key_digest.rt, date.rt,
+// credit.rt, amount.rt, posting_amount.rt, text.rt; rtgs_book limits.rt; rtgs_order_files limits.rt; rtgs_http_requests
+// feeds/limits.rt, heads/limits.rt.
 pub fn every_limit()
     ensures books { (MOST_PARTICIPANTS ≡ 100) × (LONGEST_QUEUE ≡ 500) × (MOST_QUEUED ≡ 50_000)
         × (LARGEST_NUMBER ≡ 999_999_999) }
@@ -43,7 +45,8 @@ pub fn every_limit()
 /// **Promise 16. And each number is this one.** In the tables: their version, and what stands for a phase of the day,
 /// for a plain or an automatic day, and for the state of an order. Outside: the statuses with which the program ends,
 /// and the number of each refusal, with the status of its reply over HTTP.
-// To judge it, read these 3 files: rtgs_promises Numbers; rtgs_rows Rows; rtgs_refusals Table.
+// To judge it, read these 8 files: rtgs_promises Numbers; rtgs_rows Rows, numbers.rt; rtgs_refusals Table,
+// exit_status.rt, refusal_kind.rt; rtgs_book phase.rt, order_state.rt.
 pub fn every_number()
     ensures days { (VERSION ≡ 3) × (phase_number Closed ≡ 0) × (phase_number Open ≡ 1) × (phase_number CutOff ≡ 2)
         × (resolution_number false ≡ 0) × (resolution_number true ≡ 1) }
