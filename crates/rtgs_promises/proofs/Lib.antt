@@ -6,5 +6,6 @@ mod Headlines
 mod InMemory
 mod Released
 mod Lives
+mod Most
 mod OneRequest
 mod Resolving

@@ -7,13 +7,13 @@
 //! Date, amount.rt, cents.rt, code.rt, credit.rt, date.rt, key_digest.rt, name.rt, posting_amount.rt, reference.rt,
 //! text.rt.
 ghost use Rattle.std.specs.Prelude.{◌≡◌, List, ◌≤◌, ◌+◌, ◌*◌, length, slice_index, ◌+ℤ◌, ◌≤ℤ◌, true, ℕ, [], ◌++◌};
-ghost use Rattle.std.specs.Prelude.{filter, take, Ok};
+ghost use Rattle.std.specs.Prelude.{filter, take, sum_by, Ok};
 ghost use Rattle.std.specs.List.{AllByRecursion};
 ghost use Rattle.std.specs.Str.{bytes_eq};
 ghost use Rattle.rtgs_book.specs.Balance.{balance, floor, total, issued};
 ghost use Rattle.rtgs_book.specs.Books.{is_queued};
 ghost use Rattle.rtgs_book.specs.Calm.{IsCalm};
-ghost use Rattle.rtgs_book.specs.Choice.{IsGreatest, Choice, chosen};
+ghost use Rattle.rtgs_book.specs.Choice.{IsFeasible, IsGreatest, Choice, is_chosen, chosen};
 ghost use Rattle.rtgs_book.specs.Laws.{KeepsWhatIsFinal, NothingSettlesEarly};
 ghost use Rattle.rtgs_book.specs.Lookup.{codes_of};
 ghost use Rattle.rtgs_book.specs.Outcome.{Reply, alone};
@@ -88,6 +88,23 @@ pub fn each_resolution_settles_the_greatest_choice()
     chosen_are_beginnings();
     step_keeps_soundness();
 }
+
+/// **Promise 5. And no choice settles more.** No choice of queue beginnings that leaves nobody below its floor has more
+/// orders or more value than the greatest.
+///
+/// Each of its orders is among those of the greatest.
+// To judge it, read these 25 files: rtgs_book Choice, Queue, Balance, Lookup, Books, book.rt, order.rt, rows.rt,
+// participant.rt, posting.rt, mark.rt, day.rt, order_state.rt, phase.rt; rtgs_lists IntSum; rtgs_money code.rt,
+// reference.rt, amount.rt, date.rt, name.rt, key_digest.rt, credit.rt, posting_amount.rt, cents.rt, text.rt.
+pub fn no_choice_settles_more()
+    ensures among { (book : Book) (greatest other : Choice) → IsGreatest book greatest → IsFeasible book other
+        → (o : Order) → is_chosen book other o ≡ true → is_chosen book greatest o ≡ true }
+    ensures orders { (book : Book) (greatest other : Choice) → IsGreatest book greatest → IsFeasible book other
+        → length (chosen book other) ≤ length (chosen book greatest) }
+    ensures value { (book : Book) (greatest other : Choice) → IsGreatest book greatest → IsFeasible book other
+        → sum_by (λ (o : Order). o.amount) (chosen book other)
+        ≤ sum_by (λ (o : Order). o.amount) (chosen book greatest) }
+{}
 
 /// **Promise 6. An automatic day leaves nothing that could settle.** After a command that a resolution follows, no
 /// choice of queued orders could be settled, whatever was before. Once that is so it stays so, whatever is commanded,
