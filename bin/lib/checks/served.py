@@ -23,8 +23,8 @@ CENTS = 150
 REPLY = "HTTP/1.1 {} {}\r\nContent-Type: {}\r\nContent-Length: {}\r\nConnection: close\r\n\r\n{}"
 ANSWERS = ('{"answer":"settled","mark":1,"number":1}', '{"answer":"repeated","mark":1,"number":1,"state":"settled"}')
 REFUSAL = '{"code":67,"name":"NoSuchRoute"}'
-# how many bytes a peer sends once it is refused, in how many pieces, a moment after one another: the system tells of a
-# connection that is closed at the piece after the first. How long the next peer may wait, in seconds
+# how many bytes a peer sends once it is refused, in how many pieces, a moment after one another: that the
+# connection was closed is reported at the piece after the first. How long the next peer may wait, in seconds
 UNSENT, PIECES, MOMENT, SOON = 100_000, 10, 0.005, 2
 # how many postings make a long reply, and how slowly that is read: the bytes of a piece, and the seconds before each of
 # the first pieces
