@@ -4,21 +4,21 @@ use Rattle.std.specs.List.{AllByRecursion}
 use Rattle.rtgs_book.specs.declared.book.Book.{Book}
 use Rattle.rtgs_book.specs.declared.command.Command.{Command}
 use Rattle.rtgs_book.specs.Calm.{IsCalm}
-use Rattle.rtgs_book.specs.Laws.{KeepsWhatIsFinal, NothingSettlesEarly}
+use Rattle.rtgs_book.specs.Laws.{NothingSettlesEarly}
 use Rattle.rtgs_book.specs.Outcome.{Reply}
 use Rattle.rtgs_book.specs.Run.{Run}
 use Rattle.rtgs_book.specs.Session.{Session, IsLife}
 use Rattle.rtgs_book.specs.Soundness.{IsSound}
 use Rattle.rtgs_laws.specs.repeats.Lives.{AreLived}
 use Rattle.rtgs_promises.specs.Headline.{EachResolves, IsHeadline}
+use Rattle.rtgs_promises.proofs.Final.{LifeStands, keep_final}
 
 -- the laws that it rests on, as the calls of laws promise them
 pub record Laws : Type 0 where
   pub run : (book found : Book) (sessions : List Session) → IsLife book sessions found
       → (commands : List Command) × (replies : List Reply) × AreLived sessions commands replies
       × Run book commands replies found
-  pub stands : (book found : Book) (sessions : List Session) → IsSound book → IsLife book sessions found
-      → IsSound found × KeepsWhatIsFinal book found
+  pub stands : LifeStands
   pub calm : (book found : Book) (sessions : List Session) → IsSound book → IsCalm book
       → IsLife book sessions found → AllByRecursion (λ (s : Session). IsCalm s.found) sessions × IsCalm found
   pub resolutions : (start last : Book) (commands : List Command) (replies : List Reply)
@@ -49,6 +49,7 @@ headline laws start found given said sound calm it =
       run = run.3;
       resolutions = laws.resolutions start found run.0 run.1 run.3;
       calm = laws.calm start found it.sessions sound calm it.life;
+      final = keep_final laws.stands start found it.sessions sound it.life;
       stands = last.1;
       in_time = laws.in_time found last.0;
       sound = last.0;

@@ -2,6 +2,7 @@ mod Anew
 mod Batches
 mod Crashes
 mod Determined
+mod Final
 mod Headlines
 mod InMemory
 mod Released

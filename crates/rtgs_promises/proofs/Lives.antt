@@ -10,6 +10,7 @@ use Rattle.rtgs_book.specs.Session.{Session, IsSession, IsLife}
 use Rattle.rtgs_book.specs.Soundness.{IsSound}
 use Rattle.rtgs_promises.specs.Headline.{AreExactly, EndsEarly, IsForced}
 use Rattle.rtgs_promises.specs.declared.sessions.NoSession.{NoSession}
+use Rattle.rtgs_promises.proofs.Final.{life_more}
 use Rattle.rtgs_promises.proofs.Headlines.{AreLife, Laws, headline}
 
 -- ---- a life
@@ -21,12 +22,6 @@ no_life start = record {
   replies = refl;
   life = refl;
 }
-
-life_more : (start mid found : Book) (sessions : List Session) (s : Session) → IsLife start sessions mid
-    → s.start ≡ mid → IsSession s → s.found ≡ found → IsLife start (sessions ++ s ∷ []) found
-life_more start mid found [] s life begins is ends = (begins ∙ life, is, sym ends)
-life_more start mid found (one ∷ more) s life begins is ends =
-    (life.0, life.1, life_more one.found mid found more s life.2 begins is ends)
 
 are_life_more : (start mid found : Book) (given : List (List Command)) (said : List (List Reply))
     (commands : List Command) (replies : List Reply) → AreLife start given said mid

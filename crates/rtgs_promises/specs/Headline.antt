@@ -46,6 +46,11 @@ EachResolves start commands replies last =
     → commands ≡ before ++ command ∷ after → replies ≡ heard ++ reply ∷ more → length heard ≡ length before
     → (old new : Book) × Run start before heard old × Resolves old command reply new × Run new after more last
 
+-- books one after another, each of which keeps what was final in any before it
+abbrev pub KeepFinal : List Book → Type 0
+KeepFinal [] = ⊤
+KeepFinal (book ∷ later) = AllByRecursion (KeepsWhatIsFinal book) later × KeepFinal later
+
 -- Sessions that were begun with the book `start`, and the book that was found in the end. `given` are the commands of
 -- each session, and `said` are their replies.
 pub record IsHeadline (start : Book) (given : List (List Command)) (said : List (List Reply)) (found : Book)
@@ -67,8 +72,11 @@ pub record IsHeadline (start : Book) (given : List (List Command)) (said : List 
   pub resolutions : EachResolves start all heard found
   -- on an automatic day nothing was left that could settle, in any book that was found
   pub calm : AllByRecursion (λ (s : Session). IsCalm s.found) sessions × IsCalm found
-  -- what was final stands, nothing settled before its due date, and no rule of a sound book is broken
+  -- What was final stands: what was so in the first book, or in one that was found after a session, is so in each that
+  -- was found later, and in the last.
+  pub final : KeepFinal (start ∷ map (λ (s : Session). s.found) sessions)
   pub stands : KeepsWhatIsFinal start found
+  -- nothing settled before its due date, and no rule of a sound book is broken
   pub in_time : NothingSettlesEarly found
   pub sound : IsSound found
 

@@ -47,8 +47,9 @@ use std::alloc::Global;
 ///   or, where the store had failed, perhaps that book after the one command in doubt, whole. So over any number of
 ///   sessions one list of commands leads from the new book to the last.
 /// - In it each resolution, asked for or not, settled the greatest choice of queue beginnings that leaves nobody below
-///   its floor, or there was nothing to settle. What was final stands, nothing settled before its due date, and on an
-///   automatic day nothing was left that could settle.
+///   its floor, or there was nothing to settle. What was final in the first book, or in one that was found, stands in
+///   each that was found later. Nothing settled before its due date, and on an automatic day nothing was left that
+///   could settle.
 /// - The tables have the rows of the last book and no others. Each stored balance is the sum from scratch, and
 ///   together these balances are what was posted.
 /// - Where a session could not be had, memory ran out or the store failed. All this then holds of the sessions
