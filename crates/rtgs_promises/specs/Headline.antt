@@ -118,6 +118,13 @@ pub record EndsEarly (start : Book) (given : List (List Command)) (said : List (
       → (found : Book) × AreExactly found trees × IsHeadline start (take (length said) given) said found
   pub forced : IsForced cause
 
+-- Sessions in memory that ended early, where a store that is dropped leaves nothing: either no session was had, or of
+-- those that have replies it is the headline.
+pub record EndsEarlyInMemory (given : List (List Command)) (said : List (List Reply)) (cause : NoSession)
+    : Type 0 where
+  pub had : (said ≡ []) ⊎ ((found : Book) × IsHeadline new_book (take (length said) given) said found)
+  pub forced : IsForced cause
+
 -- Sessions from the new book that ended early. Whatever a crash leaves has no tables, and no session was had; or of
 -- those that have replies it is the headline.
 pub record EndsEarlyAnew (given : List (List Command)) (said : List (List Reply)) (cause : NoSession)

@@ -20,13 +20,14 @@ ghost use Rattle.rtgs_book.specs.Calm.{IsCalm};
 ghost use Rattle.rtgs_book.specs.declared.book.Book.{Book};
 ghost use Rattle.rtgs_desk.specs.Holding.{Holds};
 ghost use Rattle.rtgs_promises.specs.Headline.{IsHeadline, EndsEarly, LeavesExactly, EndsEarlyAnew, LeavesRows};
+ghost use Rattle.rtgs_promises.specs.Headline.{EndsEarlyInMemory};
 ghost use Rattle.rtgs_book_file.specs.stored_desk.Stored.{AreTablesOf};
 
 use crate::books::{each_resolution_settles_the_greatest_choice, nothing_settles_early};
 use crate::desks::tables_are_exactly_the_book;
 use crate::living::{abandoned, begun};
 use crate::making::tables_made;
-use crate::memory::made_in_memory;
+use crate::memory::{made_in_memory, told};
 use crate::sessions::{NoSession, PlannedSession, Unfinished};
 use crate::stopping::found_again;
 use rtgs_book::{Refusal, WholeAnswer};
@@ -150,6 +151,8 @@ pub fn live<S: Alter + Reopen + Drop>(
 }
 
 /// **Promise 1, in memory.** The headline over a database in memory, from the empty one: no premise is left.
+///
+/// Where a session could not be had, memory ran out or the store failed, and it is the headline of those before it.
 // To judge it, read these 95 files: the files of a command; rtgs_promises Headline, sessions.rt; rtgs_desk Holding,
 // Seen, desk.rt; rtgs_book Session, Run, Calm, Laws, Soundness, Procedure, cores.Cores, Ranges, Judgement, fault.rt,
 // rule.rt, cores/cores.rt, account.rt; rtgs_laws repeats.Lives; rtgs_keeper Still, keeper.rt; rtgs_rows Keeping,
@@ -166,21 +169,21 @@ pub fn live_in_memory(
         Vec<Vec<Result<WholeAnswer, Refusal>>>,
         Desk<SqlKeeper<MemStore>>,
     ),
-    NoSession,
+    (Vec<Vec<Result<WholeAnswer, Refusal>>>, NoSession),
 >
-    ensures { IfOk result (λ (said, desk). (found : Book) × Holds ⟦<SqlKeeper<MemStore> as Keeper>⟧ desk found
+    ensures lived { IfOk result (λ (said, desk). (found : Book) × Holds ⟦<SqlKeeper<MemStore> as Keeper>⟧ desk found
         × IsHeadline new_book (map (λ session. session.commands.items) sessions.now)
         (map (λ replies. replies.items) said.items) found) }
+    ensures ended { IfErr result (λ (said, cause). EndsEarlyInMemory
+        (map (λ session. session.commands.items) sessions.now) (map (λ replies. replies.items) said.items) cause) }
 {
-    let made = made_in_memory(alloc)?;
+    let none = Vec::new(alloc);
+    let made = match made_in_memory(alloc) {
+        Ok(made) => made,
+        Err(cause) => return Err((none, cause)),
+    };
     match live(alloc, made, sessions) {
         Ok((said, desk)) => Ok((said, desk)),
-        Err(
-            Unfinished {
-                said: _,
-                cause,
-                store: _,
-            },
-        ) => Err(cause),
+        Err(unfinished) => Err(told(unfinished)),
     }
 }
