@@ -1,8 +1,8 @@
 """The definitions that a contract reaches, in the crates of the desk.
 
 A contract names definitions, and these name others. Each has a home, which is a crate and a file: `Balance` is
-`specs/Balance.antt`, and `order.rt` is `src/order.rt`. Of the code count types, traits and constants. A type counts with
-what contracts see of it: the value and the view of its `Model` and those fields that the view names, or all of its
+`specs/Balance.antt`, and `order.rt` is `src/order.rt`. Of the code count types, traits and constants. A type counts
+with what contracts see of it: the value and the view of its `Model` and those fields that the view names, or all of its
 fields where it has no model; with its constants; and with what it sets the ghost members of the desk's traits to. A
 trait counts with its ghost members. What is proved of them is not followed: clauses of functions, invariants, and ghost
 fields. Nor is what the kit's crates define.
@@ -265,7 +265,7 @@ def declared(crate, path, name):
 
 
 def in_code(crate, modules, name):
-    """Returns where a name of the code is defined, which a module may have passed on, or none where it is a function."""
+    """Returns where a name of the code is defined, also where a module passed it on, or none where it is a function."""
     it = source((crate, f"{'/'.join(modules) or 'lib'}.rt"))
     found = it.place(name) if it else None
     if not found and name[0].isupper():

@@ -215,7 +215,7 @@ class Documents(unittest.TestCase):
     def test_the_lists_of_files_are_counted(self):
         found = documents.judged()
         self.assertEqual(sorted(number for number, _ in found.values())[::len(found) - 1], [1, 16])
-        self.assertEqual((found["every_limit"], found["make_and_live"][1] > 9), ((16, 1), True))
+        self.assertEqual((found["every_limit"], found["make_and_live"][1] > 9), ((16, 15), True))
 
     def test_clauses_and_names_must_be_those_of_the_code(self):
         good = "`Desk::submit` (`acts`, which is `Acts`: `judged`; `faults`), `make` of `rtgs_book_file` (`stops`)"
