@@ -73,8 +73,10 @@ class Orders:
 
     def send(self):
         while not self.is_over:
-            self.server.asked(desks.order(desks.KEYS["ALFA"], "BETA", self.had + 1))
-            self.had += 1
+            # (who is held up for long may find the connection gone, and sends the same order again)
+            with contextlib.suppress(OSError):
+                self.server.asked(desks.order(desks.KEYS["ALFA"], "BETA", self.had + 1))
+                self.had += 1
 
     def __enter__(self):
         self.sends.start()
