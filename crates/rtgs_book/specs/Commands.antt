@@ -1,4 +1,4 @@
--- What each command comes to. Its tests stand in their order; `choice` is the greatest one.
+-- What each command gives. Its tests stand in their order; `choice` is the greatest one.
 use Rattle.std.specs.Prelude.{ℕ, ◌+◌, ℤ, pos, neg_ℤ, ◌+ℤ◌, ◌-ℤ◌, int_lt, int_le, Bool, true, false, not, ◌&&◌, ◌==◌}
 use Rattle.std.specs.Prelude.{nat_le, nat_lt, if◌then◌else◌, List, [], ◌∷◌, ◌++◌, length, map, filter, Option, Some}
 use Rattle.std.specs.Prelude.{None, is_some, is_none, unwrap_or, Ok, Err}

@@ -1,4 +1,4 @@
--- What a command comes to: its result, and the book after it.
+-- What a command gives: its result, and the book after it.
 use Rattle.std.specs.Prelude.{Bool, true, false, if◌then◌else◌, List, [], ◌∷◌, Result, Ok, Err, Option, Some, None}
 use Rattle.rtgs_book.specs.Books.{Book}
 pub use Rattle.rtgs_book.specs.declared.command.Command.{Command}

@@ -29,7 +29,7 @@ impl Account {
         Cents::new(self.balance.cents() + cents.cents())
     }
 
-    /// The balance with so many cents more, or less where they are below zero.
+    /// The balance with this number of cents more, or less where they are below zero.
     pub fn balance_moved(&self, cents: i64) -> Cents
         requires { FitsSigned w64 (self.now.balance +ℤ cents) }
         ensures { result ≡ self.now.balance +ℤ cents }

@@ -10,7 +10,7 @@ pub enum Known {
     Order { number: u64, state: OrderState },
 }
 
-/// What a resolution settled: so many orders of this value, under the mark.
+/// What a resolution settled: how many orders, of what value in all, and under which mark.
 #[derive(Clone, Copy, Debug, PartialEq, Eq)]
 pub struct Resolution {
     pub mark: u64,
@@ -39,7 +39,7 @@ pub enum Answer {
     /// The order waits in no queue as yet, with this due date.
     Held { number: u64, due: BusinessDate },
     Withdrawn { number: u64 },
-    /// So many orders of this value were settled under the mark.
+    /// This number of orders, of this value in all, were settled under the mark.
     Resolved { mark: u64, count: u64, value: Cents },
     /// There was nothing that could be settled.
     Nothing,

@@ -1,7 +1,7 @@
 //! Commands.
 //!
 //! To add one, say what it means in `specs/Commands.antt`, and in `specs/Step.antt` whether it may free orders. The
-//! compiler names each function that lacks a case for it, but for `judge` in `follow_up.rt` of `rtgs_ledger`, which
+//! compiler names each function that lacks a case for it, except `judge` in `follow_up.rt` of `rtgs_ledger`, which
 //! says that the amounts of a command are in their ranges. Whether it comes again as a repeat stands in `Lasting.antt`
 //! of `rtgs_laws::repeats`, and who may send it in `Access.antt` of `rtgs_http_requests` and the routes of its module
 //! `heads`.

@@ -6,7 +6,7 @@ use rtgs_money::Code;
 use rtgs_refusals::RefusalKind;
 use std::alloc::{AllocError, AllocFailed};
 
-/// Why a command was refused. A refused command changes nothing, but for a fault of the store, which leaves open
+/// Why a command was refused. A refused command changes nothing, except a fault of the store, which leaves open
 /// whether it acted.
 #[derive(Clone, Copy, Debug, PartialEq, Eq)]
 pub enum Refusal {
@@ -46,7 +46,7 @@ pub enum Refusal {
     NotQueued,
     /// Queued orders could be settled together.
     Resolvable,
-    /// So many participants are below zero, and this is the first in code order.
+    /// This number of participants are below zero, and this is the first in code order.
     Overdrawn { first: Code, count: u64 },
     /// The due date is not later than the day's.
     DueNotLater,

@@ -28,7 +28,7 @@ pub record IsFlag (given : List Row) (flag : Text) (is_given : Bool) : Type 0 wh
   pub yes : one_of flag given ≡ Some (codes "true") → is_given ≡ true
   pub no : one_of flag given ≡ Some (codes "false") → is_given ≡ false
 
--- the number of so many bits that was given for an option, in decimal digits, before which a plus may stand
+-- the number of this many bits that was given for an option, in decimal digits, before which a plus may stand
 abbrev pub IsNumber : ℕ → List Row → Text → ℕ → Type 0
 IsNumber bits given option number = (text : Text) × (one_of option given ≡ Some text)
     × IsNumeral 10 (without_leading_plus text) × (number ≡ digits_value 10 (without_leading_plus text))

@@ -30,7 +30,7 @@ pub enum Done {
     Answered(WholeAnswer),
     /// The server waits for connections on this port.
     Listening { port: u16 },
-    /// The server has served so many connections, all that it was to serve.
+    /// The server has served this many connections, all that it was to serve.
     Served { count: u32 },
 }
 

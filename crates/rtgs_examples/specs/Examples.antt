@@ -87,7 +87,7 @@ unopened = record start { day = record { date = None; phase = Closed; automatic 
 abbrev pub automatic_start : Book
 automatic_start = record start { day = record { date = Some monday; phase = Open; automatic = true } }
 
--- the command's own reply, and after it so many orders of this value settle under the mark
+-- the command's own reply, and after it this number of orders of this value settle under the mark
 abbrev pub and_settles : OwnReply → ℕ → ℕ → ℤ → Reply
 and_settles reply mark count value = with_resolution reply (Some (record { mark = mark; count = count; value = value }))
 

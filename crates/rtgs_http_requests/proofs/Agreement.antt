@@ -1,4 +1,4 @@
--- Steps that tell one thing, but for lack of memory.
+-- Steps that tell one thing, except for lack of memory.
 use Rattle.std.proofs.Common.{◌≡◌, ◌⊎◌, inl, inr, Result, Ok, Err, refl, sym, ap, subst, ◌∙◌}
 use Rattle.rtgs_http_requests.specs.Steps.{Then, Goes}
 use Rattle.rtgs_http_requests.specs.declared.http_fault.HttpFault.{HttpFault}

@@ -1,4 +1,4 @@
--- Steps that tell more than that memory is wanting.
+-- Steps that tell more than that memory ran out.
 use Rattle.std.proofs.Common.{◌≡◌, Result, Ok, Err, refl, ap}
 use Rattle.std.specs.Prelude.{◌≢◌}
 use Rattle.rtgs_http_requests.specs.Steps.{Then, HasAnswer}

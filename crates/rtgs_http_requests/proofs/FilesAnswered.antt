@@ -16,16 +16,16 @@ use Rattle.rtgs_http_requests.specs.Steps.{HasAnswer}
 use Rattle.rtgs_http_requests.specs.declared.asked.Asked.TheVariants.{Batch}
 use Rattle.rtgs_http_requests.specs.declared.http_fault.HttpFault.TheVariants as fault
 
--- all records spell rows, and they are so many at most
+-- all records spell rows, and there are at most this many
 abbrev AllRows : Columns → ℕ → List CsvFields → Type 0
 AllRows columns n records = (rows : List NewOrder) × BeginWith columns rows [] records × (length rows ≤ n)
 
--- one of the first so many is the first that spells none
+-- one of the first N is the first that spells none
 abbrev BadAmong : Columns → ℕ → List CsvFields → Type 0
 BadAmong columns n records = (rows : List NewOrder) × (bad : CsvFields) × (rest : List CsvFields)
     × BeginWith columns rows (bad ∷ rest) records × IsNoRow columns bad × (length rows < n)
 
--- the first so many spell rows, and there are more
+-- the first N spell rows, and there are more
 abbrev MoreThan : Columns → ℕ → List CsvFields → Type 0
 MoreThan columns n records = (rows : List NewOrder) × (next : CsvFields) × (rest : List CsvFields)
     × BeginWith columns rows (next ∷ rest) records × (length rows ≡ n)

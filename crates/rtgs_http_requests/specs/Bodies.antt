@@ -8,7 +8,7 @@ use Rattle.rtgs_http_requests.specs.declared.http_fault.HttpFault.{HttpFault}
 use Rattle.rtgs_http_requests.specs.declared.http_fault.HttpFault.TheVariants.{NoLength, BodyTooLong, BadJson}
 use Rattle.rtgs_http_requests.specs.declared.http_fault.HttpFault.TheVariants.{OutOfMemory}
 
--- how many bytes the body of a POST has, where the head declares so many, or nothing; a GET has no body
+-- how many bytes the body of a POST has, where the head declares a number, or nothing; a GET has no body
 abbrev pub body_length : Bool → Option ℕ → Result ℕ HttpFault
 body_length false declared = Ok 0
 body_length true None = Err NoLength

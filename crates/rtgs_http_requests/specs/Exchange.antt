@@ -40,7 +40,7 @@ abbrev pub HasCaller : List ℕ → CodeOf → Route → RequestHead → Result 
 HasCaller operator code_of route head outcome =
     (key : Option (List ℕ)) × HasKey (fields_of head) key × (outcome ≡ caller_under operator code_of route key)
 
--- the body of so many bytes, from what comes after the region
+-- the body of this many bytes, from what comes after the region
 abbrev pub HasBody : List ℕ → ℕ → Result (List ℕ) HttpFault → Type 0
 HasBody rest size (Ok body) = (size ≤ length rest) × (body ≡ take size rest)
 HasBody rest size (Err Truncated) = length rest < size

@@ -9,7 +9,7 @@ use crate::http_fault::HttpFault;
 use serde_json::Value;
 use std::alloc::Global;
 
-/// How many bytes the body has, where the head declares so many (RFC 9112, section 6.2). A GET has none. A POST that
+/// How many bytes the body has, where the head declares a number (RFC 9112, section 6.2). A GET has none. A POST that
 /// declares none is `NoLength`, and one that declares more than a body may have is `BodyTooLong`.
 pub fn body_length(posts: bool, declared: Option<u32>) -> Result<u32, HttpFault>
     ensures { result ≡ body_length posts declared }

@@ -1,4 +1,4 @@
--- What a sound book keeps, but for how many orders of a sender wait.
+-- What a sound book keeps, except for how many orders of a sender wait.
 use Rattle.std.proofs.Common.{◌≡◌, ◌≤◌, true, [], filter, length}
 use Rattle.std.specs.List.{AllByRecursion}
 use Rattle.rtgs_book.specs.declared.limits.TheConstants.{LONGEST_QUEUE}

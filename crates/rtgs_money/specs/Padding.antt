@@ -6,7 +6,7 @@ use Rattle.std.proofs.Common.{ap, sym, ◌∙◌, take-append-drop}
 abbrev pub padded : ℕ → List ℕ → List ℕ
 padded size text = text ++ replicate (size - length text) 0
 
--- so many bytes are the text, and behind them stand zeros alone, up to the size
+-- this many bytes are the text, and behind them stand zeros alone, up to the size
 abbrev pub IsPadded : ℕ → List ℕ → ℕ → Type 0
 IsPadded size bytes len = (length (take len bytes) ≡ len) × (drop len bytes ≡ replicate (size - len) 0)
 

@@ -28,7 +28,7 @@ impl Amount {
     /// The greatest amount of an order.
     pub const MAX: u64 = 1_000_000_000_000;
 
-    /// The amount of so many cents.
+    /// The amount of this many cents.
     pub fn new(cents: u64) -> Amount
         requires at_least_one { 1 ≤ cents }
         requires in_range { cents ≤ Amount.MAX }
@@ -37,7 +37,7 @@ impl Amount {
         Amount { cents }
     }
 
-    /// The amount of so many cents, if an order may pay it.
+    /// The amount of this many cents, if an order may pay it.
     pub fn from_cents(cents: u64) -> Option<Amount>
         ensures valid { IsSome result ↔ IsAmount cents }
         ensures value { IfSome result (λ amount. amount ≡ cents) }

@@ -17,7 +17,7 @@ impl Model for Cents {
 }
 
 impl Cents {
-    /// So many cents, which may be below zero.
+    /// A number of cents, which may be below zero.
     pub fn new(cents: i64) -> Cents
         ensures { result ≡ cents }
     {

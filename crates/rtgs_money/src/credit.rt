@@ -32,7 +32,7 @@ impl Credit {
 
     pub const NONE: Credit = Credit { cents: 0 };
 
-    /// The credit limit of so many cents, if a participant may have it.
+    /// The credit limit of this many cents, if a participant may have it.
     pub fn from_cents(cents: u64) -> Option<Credit>
         ensures valid { IsSome result ↔ IsCredit cents }
         ensures value { IfSome result (λ credit. credit ≡ cents) }

@@ -29,7 +29,7 @@ impl PostingAmount {
     /// The greatest magnitude of a posting.
     pub const MAX: u64 = 1_000_000_000_000_000;
 
-    /// The posting of so many cents, if there may be one.
+    /// The posting of this many cents, if there may be one.
     pub fn from_cents(cents: i64) -> Option<PostingAmount>
         ensures valid { IsSome result ↔ IsPostingAmount cents }
         ensures value { IfSome result (λ posting. posting ≡ cents) }

@@ -21,7 +21,7 @@ impl Model for Units {
 }
 
 impl Units {
-    /// So many cents of a sum, which may be below zero.
+    /// A number of cents of a sum, which may be below zero.
     pub fn new(cents: i128) -> Units
         ensures { result ≡ cents }
     {

@@ -32,7 +32,7 @@ impl BatchFault {
         }
     }
 
-    /// What an error of a reader of bytes in memory comes to. Such a reader wants memory, and nothing else can fail,
+    /// What an error of a reader of bytes in memory means. Such a reader wants memory, and nothing else can fail,
     /// but its contract leaves open that it may call that an error of what it reads from.
     pub(crate) fn of_reader(error: &csv::Error) -> BatchFault
         requires { stops_reader (error_kind error.now) ≡ true }

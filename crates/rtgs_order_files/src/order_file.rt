@@ -27,7 +27,7 @@ pub fn read_orders(alloc: Global, bytes: &[u8]) -> Result<Vec<NewOrder>, BatchFa
     ensures rows { IfOk result (λ rows. IsOrderFile bytes.now rows.items) }
     ensures fault { IfErr result (λ fault. IsFaultOf bytes.now fault) }
 
-    // An order file gives its rows, and what is wrong with another file is named, but for lack of memory.
+    // An order file gives its rows, and what is wrong with another file is named, except where memory ran out.
     ensures taken { (rows : List NewOrder) → IsOrderFile bytes.now rows
         → IfOk result (λ taken. taken.items ≡ rows) × IfErr result (λ fault. fault ≡ BatchFault.OutOfMemory) }
     ensures refused { (fault : BatchFault) → IsFaultOf bytes.now fault → fault ≢ BatchFault.OutOfMemory

@@ -57,7 +57,7 @@ added {Fits = Fits} {number = number} {book = book} {content = content} x fits =
   rose = front (λ a b. int_cmp (pos (number a)) (pos (number b)) ≡ Less) content x;
 }
 
--- ---- each record changed, but for its number
+-- ---- each record changed, except its number
 
 rose_map : {A : Type 0} (number : A → ℕ) (f : A → A) → ((x : A) → number (f x) ≡ number x) → (xs : List A)
     → Rise (λ a. pos (number a)) (map f xs) → Rise (λ a. pos (number a)) xs

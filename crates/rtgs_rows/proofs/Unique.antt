@@ -146,7 +146,7 @@ posting_once d a b p q e =
     let date = date_value_once d a.date b.date p.date q.date dates in
     λ i. record { number = number i; code = code i; reference = reference i; cents = cents i; date = date i }
 
--- the rows of orders tell them, but for their due dates
+-- the rows of orders tell them, except their due dates
 undated_once : DatesTell → (a b : Order) → FitsOrder a → FitsOrder b → order_row a ≡ order_row b
     → without_due a ≡ without_due b
 undated_once d a b p q e =

@@ -35,7 +35,7 @@ pub record FitsPosting (p : Posting) : Type 0 where
   pub cents : IsPostingAmount p.cents
   pub date : FitsDate p.date
 
--- so those of an order, but for its due date
+-- so those of an order, except its due date
 pub record FitsUndated (o : Order) : Type 0 where
   pub sender : IsCode o.sender
   pub reference : IsReference o.reference

@@ -27,7 +27,7 @@ pub record IsFileIn (version : ℕ) (trees : Trees) (s : State) : Type 0 where
 abbrev pub IsDeskFile : Trees → State → Type 0
 IsDeskFile = IsFileIn VERSION
 
--- rows of so many values, under row numbers that are whole and rise
+-- rows of this many values, under row numbers that are whole and rise
 abbrev pub AreNumberedRows : ℕ → List Row → Type 0
 AreNumberedRows width rows = IsTable rows × AllByRecursion
     (λ row. IsTrue (is_int (rowid row)) × (length row ≡ width + 1)) rows

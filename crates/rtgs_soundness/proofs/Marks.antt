@@ -140,7 +140,7 @@ tally_here orders tallies marks place m numbered same within is are =
 same_count : (m n : ℕ) → pos m ≡ pos n → m ≡ n
 same_count m n e = omega (arith, ints)
 
--- what the comparison of marks with tallies tells of the book
+-- what the comparison of marks with tallies says of the book
 pub tallies_of : (book : Book) (b : Bool) → AllByRecursion (λ (o : Order). HasMark book.marks o.date o.state)
     book.orders → (b ≡ true) ↔ AllByRecursion (λ (m : Mark). IsCounted m (tally_of_mark book.orders m.number))
     book.marks

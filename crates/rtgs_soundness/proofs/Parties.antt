@@ -1,4 +1,4 @@
--- What a set of the participants' codes tells of orders and postings.
+-- What a set of the participants' codes says of orders and postings.
 use Rattle.std.proofs.Common.{◌≡◌, ℕ, Bool, true, false, not, ◌&&◌, List, [], ◌∷◌, nat_cmp, IsTrue, ◌↔◌, refl, sym, ap}
 use Rattle.std.proofs.Common.{◌∙◌, true≢false}
 use Rattle.std.specs.BTreeSet.{BTreeSet, contains, IsFromIterResult}

@@ -34,7 +34,7 @@ pub fn core_of(alloc: Global, book: &Book) -> Result<Core, AllocError>
     })
 }
 
-// The number of the record after so many.
+// The number of the record after this many.
 fn number_after(records: usize) -> u64
     requires { records ≤ LARGEST_NUMBER }
     ensures { result ≡ records + 1 }

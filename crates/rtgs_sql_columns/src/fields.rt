@@ -13,7 +13,7 @@ use rtgs_money::{BusinessDate, Cents, Code, Name, Reference};
 use sqlite::Row;
 use sqlite::types::ValueRef;
 
-/// Nothing, where the row has so many values.
+/// Nothing, where the row has this many values.
 pub fn width(row: &Row, wide: usize) -> Option<()>
     ensures found { length row.now ≡ wide → IsSome result }
     ensures is { OnSome result (length row.now ≡ wide) }

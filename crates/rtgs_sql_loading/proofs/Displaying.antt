@@ -34,7 +34,7 @@ reads_on old new (Ok it) clean keeps same survives =
     record { clean = clean; keeps = keeps; same = same; survives = survives }
 reads_on old new (Err e) clean keeps same survives = tt
 
--- The query has no answer, or one that is in no form.
+-- The query has no answer, or a malformed one.
 pub without_answer : {A : Type 0} (db : Database) (text : List ℕ) (AreFormed : List Row → Type 0) (fault : Fault)
     (error : Error) → (fault ≡ NotADeskFile → ¬ IsOfStore error) → IsOfStore error ⊎ HasNoAnswer db text
     → ◌≡◌ {A = Result A Fault} (Err fault) (Err NotADeskFile) → IsUnread db text AreFormed

@@ -181,7 +181,7 @@ joined_after : (undated : Order) (before : List Forward) (order : Order) (after 
     → AreJoined (undated ∷ undated_orders) before (order ∷ rest)
 joined_after undated before order after takes undated_orders rest joined = (after, takes, joined)
 
--- the first so many orders have their due dates, of which those up to this place are taken
+-- the first N orders have their due dates, of which those up to this place are taken
 pub record Halfway (undated_orders : List Order) (forwards : List Forward) (i place : ℕ) (orders : List Order)
     : Type 0 where
   pub within : place ≤ length forwards

@@ -62,7 +62,7 @@ unread accounts book read StoreFault (Err it) form rules was passed = subst (Exp
 unread accounts book read NotADeskFile (Err it) form rules was passed = absurd (form was)
 unread accounts book read (Inconsistent rule) (Err it) form rules was passed = absurd (rules rule was)
 
--- nothing was read of tables: a row is in no form, or the store failed or memory was refused
+-- nothing was read of tables: a row is malformed, or the store failed or memory was refused
 pub unread_of : {A : Type 0} (version : ℕ) (trees : Trees) (read : Result A Fault) (fault : Fault)
     (answer : Result Book Fault)
     → (read ≡ Err NotADeskFile → ¬ AreFormed version trees) → ((rule : Rule) → read ≢ Err (Inconsistent rule))

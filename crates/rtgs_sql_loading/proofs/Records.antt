@@ -159,7 +159,7 @@ other_version version desk other rows read one =
     let same : desk.version ≡ one.0.0.version = cc in
     other (same ∙ one.1)
 
--- a row that the query shows is in no form, so one that the table has
+-- a row that the query shows is malformed, so one that the table has
 pub misread : {A : Type 0} (records : TableRecords A) (stored rows : List Row) → IsPermutation stored rows
     → ¬ InForm records rows → ¬ InForm records stored
 misread records stored rows same wrong all = wrong (all-permutation (IsFormed records) _ _ same all)

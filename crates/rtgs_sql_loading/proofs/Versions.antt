@@ -60,7 +60,7 @@ has_no_more =
     no_choice version low has =
         let late = in_each (λ v. 2 < v) resolution_table (omega arith, tt) version has in omega (arith, late, low)
 
--- ---- of the first so many, and of all
+-- ---- of the first N, and of all
 
 abbrev Fact : Type 1
 Fact = (A : Type 0) → TableRecords A → Type 0

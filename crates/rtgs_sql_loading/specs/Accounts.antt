@@ -121,7 +121,7 @@ ExplainsRead accounts book StoreFault = ⊤
 ExplainsRead accounts book NotADeskFile = ⊥
 ExplainsRead accounts book (Inconsistent rule) = StoredBreaksFirst accounts book rule
 
--- Why tables with the schema of this version give no book, whatever their rows are: a row is in no form; or all are,
+-- Why tables with the schema of this version give no book, whatever their rows are: a row is malformed; or none is,
 -- and this is the first rule that the records break; or else the store failed or memory was refused.
 abbrev pub ExplainsTrees : ℕ → Trees → Fault → Type 0
 ExplainsTrees version trees OutOfMemory = ⊤

@@ -53,7 +53,7 @@ first_query t tests = record (simple t.tree tests (columns_of t) (rising_by (pla
   limit = lit (Int (pos 1));
 }
 
--- the text is that query, with so many parameters, and writes nothing
+-- the text is that query, with this many parameters, and writes nothing
 pub record IsFirstQuery (t : Table) (tests : List Term) (text : List ℕ) (count : ℕ) : Type 0 where
   pub seeks : Seeks text count (first_query t tests) (column_names t)
   pub reads : Returnless (first text)

@@ -60,7 +60,7 @@ fn posting_rows<S: Alter>(
     )
 }
 
-/// What the failure of a look comes to: lack of memory, where the connection is seen to be open still, and else a fault
+/// What the failure of a look means: lack of memory, where the connection is seen to be open still, and else a fault
 /// of the store, also where the text was not understood.
 pub(crate) fn fault_of<S: Alter>(conn: &mut Connection<S>, error: &Error) -> Fault
     ensures kinds { (result ≡ Fault.OutOfMemory) ⊎ (result ≡ Fault.StoreFault) }

@@ -16,7 +16,7 @@ use sqlite::{Alter, Connection};
 /// There and back it takes some sixty leaps to any number. The others are for orders with due dates in the way.
 const MOST_LEAPS: u32 = 300;
 
-/// What a leap tells of the next one.
+/// What a leap says about the next one.
 #[derive(Clone, Copy, Debug)]
 enum Landing {
     /// It passed orders.

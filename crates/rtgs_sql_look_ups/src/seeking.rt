@@ -13,7 +13,7 @@ ghost use Rattle.sqlite.specs.Held.{state};
 use rtgs_book::{Fault, LARGEST_NUMBER};
 use sqlite::{Alter, Connection};
 
-/// So many halvings leave one of all numbers.
+/// This many halvings leave one of all numbers.
 const MOST_HALVINGS: u32 = 30;
 
 /// A record of a table whose rows are numbered, and whose dates never fall along the numbers.

@@ -17,13 +17,13 @@ use rtgs_book::{Fault, LARGEST_NUMBER, Order};
 use rtgs_money::BusinessDate;
 use sqlite::{Alter, Connection};
 
-/// So many orders with due dates, one after another, end the look for a plain one.
+/// This many orders with due dates, one after another, end the look for a plain one.
 const MOST_IN_A_ROW: u32 = 16;
 
-/// The engine passes over so many orders in the time in which one order with a due date is looked at.
+/// The engine passes over this many orders in the time in which one order with a due date is looked at.
 const ORDERS_FOR_A_LOOK: u64 = 8;
 
-/// So many orders with due dates are looked at, however close they stand.
+/// This many orders with due dates are looked at, however close they stand.
 const LOOKS_AT_LEAST: u64 = 64;
 
 /// How far plain orders are of other dates, where this plain order is the first order above `at`: above the first

@@ -54,7 +54,7 @@ abbrev pub count_of : Result Compiled CompileError → ℕ
 count_of (Ok c) = length c.names
 count_of (Err e) = 0
 
--- the text is one query over this schema, with so many parameters
+-- the text is one query over this schema, with this many parameters
 pub record IsOneQuery (schema : Schema) (sql : List ℕ) (count : ℕ) (q : Program) (names : List (List ℕ)) : Type 0 where
   pub command : command_of (understood schema sql) ≡ Select q names
   pub plain : IsPlain (understood schema sql)
@@ -95,7 +95,7 @@ pub record IsTableQuery (t : Table) : Type 0 where
 
 -- ---- a query with parameters
 
--- the text is this query, with so many parameters
+-- the text is this query, with this many parameters
 pub record Seeks (text : List ℕ) (count : ℕ) (query : Query) (names : List (List ℕ)) : Type 0 where
   pub asks : IsOneQuery desk_schema text count (record { lets = []; body = query }) names
   pub unlisted : reads_listing desk_schema text ≡ false

@@ -57,7 +57,7 @@ pub trait OneRow: TableRow {
         → Self.records.of_book version accounts book ≡ of_day version book ∷ [] };
 }
 
-/// The records of the rows, in their order. A row that is in no form is `NotADeskFile`, also where memory is wanting.
+/// The records of the rows, in their order. A malformed row is `NotADeskFile`, also where memory runs out.
 pub fn decode<T: TableRow + Drop>(alloc: Global, rows: &[Row]) -> Result<Vec<T>, Fault>
     ensures given { (all : List T) → AllByRecursion T.records.fits all
         → AreReadAs T.records rows.now all → IfOk result (λ v. v.items ≡ all) }

@@ -19,7 +19,7 @@ use Rattle.rtgs_rows.specs.Content.{Tables, tables_for}
 use Rattle.rtgs_rows.specs.Keeping.{first_content}
 use Rattle.rtgs_rows.specs.Tables.{desk_table, known_tables, current_tables, with_tables, table_count}
 
--- inside a transaction, with the first tables, so many, and these rows in them
+-- inside a transaction, with the first N tables, and these rows in them
 pub record IsBuilt (was : Database) (count : ℕ) (rows : Tables) (s : State) : Type 0 where
   pub is_open : IsTrue s.is_open
   pub inside : s.in_transaction ≡ true
@@ -36,7 +36,7 @@ with_rows_at tree rows tables all = []
 abbrev pub with_rows : Table → List Row → Tables → Tables
 with_rows table rows = with_rows_at table.tree rows current_tables
 
--- the tables of a new desk, but for the row of the first
+-- the tables of a new desk, except for the row of the first
 abbrev pub all_but_the_first : Tables
 all_but_the_first = with_rows desk_table [] (tables_for first_content)
 

@@ -1,4 +1,4 @@
--- What is added to what a day comes to, record by record.
+-- What is added to a day's sums, record by record.
 use Rattle.std.proofs.Common.{◌≡◌, ◌+◌, ◌*◌, ◌<◌, ◌≤◌, ◌^◌, ℕ, pos, ◌+ℤ◌, Bool, ◌&&◌, true, false, cond, List, [], ◌∷◌}
 use Rattle.std.proofs.Common.{filter, length, ap, ◌∙◌, arith}
 use Rattle.std.proofs.lemmas.Int.{ints}
@@ -26,7 +26,7 @@ pub record IsWithLeft (ordered : Ordered) (left all : List Order) : Type 0 where
   pub cents : (standing : Standing) → ((tally_of ordered.tallies standing).cents
       +ℤ int_sum_by amount_of (standing_orders standing left)) ≡ int_sum_by amount_of (standing_orders standing all)
 
--- no more than so many orders can come to
+-- no more than this many orders can sum up to
 pub record IsWithin (n : ℕ) (ordered : Ordered) : Type 0 where
   pub out : (code : List ℕ) → Within (n * Amount.MAX) (sum_at ordered.sent code)
   pub back : (code : List ℕ) → Within (n * Amount.MAX) (sum_at ordered.received code)

@@ -1,11 +1,11 @@
-//! What a row of a statement tells of.
+//! What a row of a statement is about.
 ghost use Rattle.std.specs.Prelude.{◌≡◌};
 ghost use Rattle.std.specs.Str.{IsAscii};
 ghost use Rattle.rtgs_statements.specs.Lines.{kind_of_sent, kind_text};
 
 use rtgs_book::{OrderState, Standing};
 
-/// What a row of a statement tells of: a posting, an order that the participant sent, by where it stands, or one that
+/// What a row of a statement is about: a posting, an order that the participant sent, by where it stands, or one that
 /// it received.
 #[derive(Clone, Copy, Debug, PartialEq, Eq)]
 pub enum Kind {

@@ -19,7 +19,7 @@ use std::io::Write;
 /// Writes the day report: its title, a line of sums for each participant, how many orders stand where and their value,
 /// and the number of marks. Amounts are in units. Each record of the date is read once, and summed as it is read. Where
 /// the writer fails or takes no byte, a beginning of the text was written, and not the whole; where a read is refused
-/// or memory is wanting, nothing was asked of the writer.
+/// or memory ran out, nothing was asked of the writer.
 pub fn write_report<S: Source, W: Write>(
     alloc: Global,
     out: &mut W,

@@ -1,4 +1,4 @@
-//! What a stopped transaction comes to, and which fault of a book that is.
+//! What a stopped transaction means, and which fault of a book that is.
 ghost use Rattle.std.specs.Prelude.{◌≡◌, ◌≢◌, ◌⊎◌, false};
 ghost use Rattle.rtgs_sql_queries.specs.Faults.{LookFailed};
 ghost use Rattle.rtgs_sql_writes.specs.Stops.{IsBefore};

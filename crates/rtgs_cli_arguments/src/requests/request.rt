@@ -33,7 +33,7 @@ pub enum Request<'a, C, R, P, K> {
         file: &'a str,
         reading: R,
     },
-    /// To serve so many connections to its desk on a port, one after another.
+    /// To serve this many connections to its desk on a port, one after another.
     Serve {
         file: &'a str,
         port: u16,

@@ -26,7 +26,7 @@ no_end_more bytes new b e none last m le = by (cases_lt m (length new))
         ∙ none m inside
     by (inr ge) = ap (λ t. ends_region t) (take_all m new ge) ∙ last
 
--- what is there when so many bytes are, and that the input has as many
+-- what is there when this many bytes are, and that the input has as many
 pub front_of : (old piece new : List ℕ) (n size : ℕ) → n ≤ length piece → new ≡ old ++ take n piece → length new ≡ size
     → (new ≡ take size (old ++ piece)) × (size ≤ length (old ++ piece))
 front_of old piece new n size le e len =

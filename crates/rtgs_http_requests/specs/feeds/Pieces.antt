@@ -5,13 +5,13 @@ use Rattle.rtgs_http_requests.specs.declared.feeds.body_step.BodyStep.TheVariant
 use Rattle.rtgs_http_requests.specs.declared.feeds.head_step.HeadStep.{HeadStep}
 use Rattle.rtgs_http_requests.specs.declared.feeds.head_step.HeadStep.TheVariants.{More, Region, TooLong}
 
--- the same step of a head, where so many bytes of the piece come before
+-- the same step of a head, where this many bytes of the piece come before
 abbrev pub head_step_behind : ℕ → HeadStep → HeadStep
 head_step_behind before More = More
 head_step_behind before (Region taken) = Region (before + taken)
 head_step_behind before TooLong = TooLong
 
--- the same step of a body, where so many bytes of the piece come before
+-- the same step of a body, where this many bytes of the piece come before
 abbrev pub body_step_behind : ℕ → BodyStep → BodyStep
 body_step_behind before body.More = body.More
 body_step_behind before (body.Full taken) = body.Full (before + taken)

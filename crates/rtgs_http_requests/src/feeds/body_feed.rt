@@ -27,7 +27,7 @@ impl Model for BodyFeed {
 }
 
 impl BodyFeed {
-    /// A feed with no bytes, and all the room that a body of so many bytes needs. The error is a lack of memory.
+    /// A feed with no bytes, and all the room that a body of this many bytes needs. The error is a lack of memory.
     pub fn new(alloc: Global, length: usize) -> Result<BodyFeed, AllocError>
         requires { length ≤ LONGEST_BODY }
         ensures { IfOk result (λ feed. feed ≡ no_bytes_of length) }

@@ -5,7 +5,7 @@
 pub enum HeadStep {
     /// The whole piece was taken, and the head's region has not ended.
     More,
-    /// The region ends after so many bytes of the piece.
+    /// The region ends after this many bytes of the piece.
     Region { taken: usize },
     /// As many bytes as a region may have hold no end of one.
     TooLong,

@@ -26,7 +26,7 @@ pub fn outcomes_are_apart()
     ensures length { (input : List ℕ) → IsTooLong input → ¬ IsOpen input }
 {}
 
-/// Two pieces do what they do as one: so the pieces do not matter, but for what they are together.
+/// Two pieces do what they do as one: so the pieces do not matter, except for what they are together.
 pub fn pieces_may_be_joined()
     ensures head { (old first second mid new : List ℕ) (step : HeadStep)
         → TakesHead old first HeadStep.More mid → TakesHead mid second step new

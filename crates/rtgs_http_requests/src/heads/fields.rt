@@ -67,7 +67,7 @@ fn values_of<'a>(region: &'a [u8], fields: &[HeaderSpan], name: &[u8]) -> NamedV
     found
 }
 
-// Whether two names are the same but for the case of their letters.
+// Whether two names are the same except for the case of their letters.
 fn is_named(name: &[u8], other: &[u8]) -> bool
     ensures { result ≡ str_eq_ignore_ascii_case name.now other.now }
 {

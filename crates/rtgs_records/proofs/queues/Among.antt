@@ -49,7 +49,7 @@ module _ (is_in : OrderState → Bool) (sender : List ℕ) where
       by true e = rw e refl
       by false e = rw e refl
 
-  -- an order at the end of the list comes to the end of the numbers, if it stands so
+  -- an order at the end of the list goes to the end of the numbers, if it stands so
   pub numbers_push : (orders : List Order) (order : Order)
       → numbers_among is_in (orders ++ order ∷ []) sender ≡ cond (stands order)
       (numbers_among is_in orders sender ++ order.number ∷ []) (numbers_among is_in orders sender)

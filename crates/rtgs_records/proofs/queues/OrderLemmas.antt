@@ -341,7 +341,7 @@ numbers_rise is_in sender (x ∷ xs) h = by (stands is_in sender x) refl (number
     by true e rest = rw e (later, rest)
     by false e rest = rw e rest
 
--- a held order comes to its place in its sender's queue
+-- a held order goes to its place in its sender's queue
 numbers_enter : (sender : List ℕ) (number date : ℕ) (orders : List Order) → AreRising orders → (i : ℕ)
     → HasNumberAt number orders i → ((d : Order) → is_held_state (get_or orders i d).state ≡ true)
     → ((d : Order) → bytes_eq (get_or orders i d).sender sender ≡ true)

@@ -40,7 +40,7 @@ pub record AreOfABook (accounts : List Account) : Type 0 where
 abbrev pub move : List ℕ → ℤ → Account → Account
 move code cents a = if is_of code a then record a { balance = a.balance +ℤ cents } else a
 
--- the code's account with so many cents more
+-- the code's account with this many cents more
 abbrev pub with_move : List ℕ → ℤ → List Account → List Account
 with_move code cents = map (move code cents)
 

@@ -4,7 +4,7 @@ ghost use Rattle.std.specs.Int.{w64};
 
 use rtgs_money::{Amount, Cents};
 
-/// The balance with so many cents more, or less where they are below zero.
+/// The balance with this many cents more, or less where they are below zero.
 pub fn moved(balance: Cents, cents: i64) -> Cents
     ensures { FitsSigned w64 (balance +ℤ cents) → result ≡ balance +ℤ cents }
 {

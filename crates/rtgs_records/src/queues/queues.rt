@@ -35,7 +35,7 @@ impl QueueNumbers {
         }
     }
 
-    /// Makes room for so many numbers more in the sender's queue. No queue loses room.
+    /// Makes room for this many numbers more in the sender's queue. No queue loses room.
     pub fn reserve(&mut self, sender: Code, count: usize) -> Result<(), AllocError>
         ensures same { (other : List ℕ) → numbers_of self.new other ≡ numbers_of self.old other }
         ensures room { OnOk result (count ≤ room_of self.new sender) }

@@ -67,7 +67,7 @@ fn is_dated(marks: &[Mark], number: u64, date: BusinessDate) -> bool
     }
 }
 
-// The tallies of so many marks. The mark with a number stands at its place.
+// The tallies of this many marks. The mark with a number stands at its place.
 fn tallied(alloc: Global, marks: usize, orders: &[Order]) -> Result<Vec<MarkTally>, AllocError>
     requires { length orders.now ≤ LARGEST_NUMBER }
     ensures { IfOk result (λ tallies. (length tallies.items ≡ marks) × AreTallies orders.now tallies.items) }
