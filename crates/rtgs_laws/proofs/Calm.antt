@@ -1,5 +1,6 @@
 -- After a resolution there is nothing more to settle: the book is calm.
-use Rattle.std.proofs.Common.{◌≡◌, ℕ, zero, suc, ◌≤◌, ◌+◌, ℤ, ◌+ℤ◌, ◌≤ℤ◌, nat_lt, Bool, true, false, cond, not, ◌&&◌, List}
+use Rattle.std.proofs.Common.{◌≡◌, ℕ, zero, suc, ◌≤◌, ◌+◌, ℤ, ◌+ℤ◌, ◌≤ℤ◌, nat_lt, Bool, true, false, cond, not}
+use Rattle.std.proofs.Common.{◌&&◌, List}
 use Rattle.std.proofs.Common.{[], ◌∷◌, map, filter, length, take, drop, Option, Some, None, refl, sym, ap}
 use Rattle.std.proofs.Common.{◌∙◌, subst, true≢false}
 use Rattle.std.proofs.Common.{⊎_elim, arith}

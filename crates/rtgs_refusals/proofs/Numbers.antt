@@ -9,7 +9,8 @@ use Rattle.rtgs_refusals.specs.declared.refusal_kind.RefusalKind.TheVariants.{No
 use Rattle.rtgs_refusals.specs.declared.refusal_kind.RefusalKind.TheVariants.{UnknownOrder, CodeTaken, KeyTaken}
 use Rattle.rtgs_refusals.specs.declared.refusal_kind.RefusalKind.TheVariants.{TooManyParticipants, TotalTooLarge}
 use Rattle.rtgs_refusals.specs.declared.refusal_kind.RefusalKind.TheVariants.{WrongPhase, WrongDate, Weekend, NotQueued}
-use Rattle.rtgs_refusals.specs.declared.refusal_kind.RefusalKind.TheVariants.{Resolvable, Overdrawn, DueNotLater, BadCode}
+use Rattle.rtgs_refusals.specs.declared.refusal_kind.RefusalKind.TheVariants.{Resolvable, Overdrawn, DueNotLater}
+use Rattle.rtgs_refusals.specs.declared.refusal_kind.RefusalKind.TheVariants.{BadCode}
 use Rattle.rtgs_refusals.specs.declared.refusal_kind.RefusalKind.TheVariants.{BadReference, BadAmount, BadName, BadKey}
 use Rattle.rtgs_refusals.specs.declared.refusal_kind.RefusalKind.TheVariants.{BadDate, BadHeader, BadRow, BadCount}
 use Rattle.rtgs_refusals.specs.declared.refusal_kind.RefusalKind.TheVariants.{BadHead, HeadTooLong, NoLength}
@@ -22,8 +23,8 @@ use Rattle.rtgs_refusals.specs.declared.refusal_kind.RefusalKind.TheVariants.{Fi
 abbrev kinds : List RefusalKind
 kinds = UnknownParticipant ∷ UnknownReceiver ∷ SameParty ∷ ReferenceUsed ∷ NotOpen ∷ NoCover ∷ QueueFull ∷ NumbersUsedUp
     ∷ UnknownOrder ∷ CodeTaken ∷ KeyTaken ∷ TooManyParticipants ∷ TotalTooLarge ∷ WrongPhase ∷ WrongDate ∷ Weekend
-    ∷ NotQueued ∷ Resolvable ∷ Overdrawn ∷ DueNotLater ∷ BadCode ∷ BadReference ∷ BadAmount ∷ BadName ∷ BadKey ∷ BadDate ∷ BadHeader
-    ∷ BadRow ∷ BadCount ∷ BadHead ∷ HeadTooLong ∷ NoLength ∷ BodyTooLong ∷ Truncated ∷ BadJson ∷ WrongFields
+    ∷ NotQueued ∷ Resolvable ∷ Overdrawn ∷ DueNotLater ∷ BadCode ∷ BadReference ∷ BadAmount ∷ BadName ∷ BadKey
+    ∷ BadDate ∷ BadHeader ∷ BadRow ∷ BadCount ∷ BadHead ∷ HeadTooLong ∷ NoLength ∷ BodyTooLong ∷ Truncated ∷ BadJson ∷ WrongFields
     ∷ NoSuchRoute ∷ NoKey ∷ AnswerLost ∷ OutOfMemory ∷ StoreFault ∷ Failed ∷ NotADeskFile ∷ Inconsistent ∷ InUse
     ∷ FileExists ∷ NoListen ∷ NoOrderFile ∷ []
 

@@ -1,6 +1,6 @@
-//! A book's file as another program makes it or changes it. Only this module names the store, since each proof over it takes in all
-//! that it does: a function that holds it by its type from one step to the next costs most. So those that name it take
-//! one step, and what takes several is written for any database.
+//! A book's file as another program makes it or changes it. Only this module names the store, since each proof over it
+//! takes in all that it does: a function that holds it by its type from one step to the next costs most. So those that
+//! name it take one step, and what takes several is written for any database.
 use rtgs_book_file::stored_desk::make;
 use sqlite::{Alter, Connection, FileStore};
 use sqlite_disk::Disk;

@@ -57,7 +57,7 @@ fn refuse_the_last_in<S: Store>(
 
 // These commands, and behind them those of the script.
 fn all_of(alloc: Global, first: &[Command], script: &str) -> Result<Vec<Command>, Fail> {
-    // Names the types of orders and of due dates for the borrow checker, which finds them nowhere else in this function.
+    // Names the types of orders and due dates for the borrow checker, which finds them nowhere else in this function.
     let (_no_order, _no_date): (Option<NewOrder>, Option<BusinessDate>) = (None, None);
     let mut all = Vec::new(alloc);
     all.extend_from_slice(first)?;

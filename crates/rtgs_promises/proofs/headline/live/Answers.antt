@@ -71,7 +71,8 @@ returns-in-Err-clause-ended g c clean is_open start tables calm =
     }) start _ _ _ (g.S.Store.recovers c.abandoned.result) tables.2.sound calm tt (λ trees may. (
       so.0,
       c.abandoned.ensures.tables clean so.0 (rw same so.1) trees may,
-      as_counted _ _ start so.0 c.args.sessions.now c.loop-session.said.items c.loop-session.session-index i.counted so.2,
+      as_counted _ _ start so.0 c.args.sessions.now c.loop-session.said.items c.loop-session.session-index i.counted
+        so.2,
     ))
 
 pub returns-in-Err-clause-back : goal.returns-in-Err-clause-back

@@ -173,7 +173,7 @@ fn replies<S: Alter + Drop>(
     keeper: SqlKeeper<S>,
     commands: &[Command],
 ) -> Result<Vec<Reply>, Fail> {
-    // Names the types of orders and of due dates for the borrow checker, which finds them nowhere else in this function.
+    // Names the types of orders and due dates for the borrow checker, which finds them nowhere else in this function.
     let (_no_order, _no_date): (Option<NewOrder>, Option<BusinessDate>) = (None, None);
     let mut keeper = keeper;
     let mut replies = Vec::new(alloc);

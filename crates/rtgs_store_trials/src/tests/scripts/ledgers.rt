@@ -115,7 +115,7 @@ fn found_for(keeper: &mut MemoryKeeper, command: &Command) -> Result<Found, Fail
 
 /// What a command of these words is answered.
 fn reply_line(alloc: Global, kept: &mut Kept, words: &[&str]) -> Result<String, Fail> {
-    // Names the types within commands and replies for the borrow checker, which finds them nowhere else in this function.
+    // Names the types in commands and replies for the borrow checker, which finds them nowhere else in this function.
     let (_no_order, _no_date): (Option<NewOrder>, Option<BusinessDate>) = (None, None);
     let _no_answer: Option<Answer> = None;
     let _no_resolution: Option<Resolution> = None;
@@ -126,7 +126,7 @@ fn reply_line(alloc: Global, kept: &mut Kept, words: &[&str]) -> Result<String, 
 
 /// The rows of the change that a command of these words makes, which is adopted.
 fn rows_line(alloc: Global, kept: &mut Kept, words: &[&str]) -> Result<String, Fail> {
-    // Names the types within commands and replies for the borrow checker, which finds them nowhere else in this function.
+    // Names the types in commands and replies for the borrow checker, which finds them nowhere else in this function.
     let (_no_order, _no_date): (Option<NewOrder>, Option<BusinessDate>) = (None, None);
     let _no_answer: Option<Answer> = None;
     let _no_resolution: Option<Resolution> = None;

@@ -13,7 +13,8 @@ invariant_of-result c =
       rising = subst AreRising (sym same) c.self.invariant.rising;
       before = subst (AllByRecursion (λ (o : Order). o.number < c.self.inside.next)) (sym same)
           c.self.invariant.before;
-      queued = λ sender. c.in_ok-queued.ensures.queued sender ∙ ap (λ orders. numbers_among is_queued_state orders sender)
+      queued = λ sender. c.in_ok-queued.ensures.queued sender ∙ ap
+        (λ orders. numbers_among is_queued_state orders sender)
           c.as_slice-2.ensures.value;
       held = λ sender. c.in_ok-queued.ensures.held sender ∙ ap (λ orders. numbers_among is_held_state orders sender)
           c.as_slice-2.ensures.value;
