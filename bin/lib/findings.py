@@ -4,6 +4,7 @@ import ast
 import glob
 import os
 import re
+import tempfile
 import textwrap
 import typing
 
@@ -162,6 +163,9 @@ def told(finding):
 
 
 def write_table():
-    """Writes the table of all files of evidence."""
-    with open(f"{folder()}/README.md", "w", encoding="utf-8") as it:
+    """Writes the table of all files of evidence, at once, since checks that run side by side write it too."""
+    path = f"{folder()}/README.md"
+    with tempfile.NamedTemporaryFile("w", encoding="utf-8", dir=folder(), delete=False) as it:
         it.write(table())
+    os.chmod(it.name, 0o644)
+    os.replace(it.name, path)

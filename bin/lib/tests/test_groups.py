@@ -31,7 +31,8 @@ class Groups(unittest.TestCase):
             return tool not in without
 
         with mock.patch.object(checks, "run_check", run_check), mock.patch.object(desks, "installed", installed), \
-                mock.patch.object(desks, "build"), contextlib.redirect_stdout(out):
+                mock.patch.object(checks, "run_apart", run_check), mock.patch.object(desks, "build"), \
+                contextlib.redirect_stdout(out):
             status = checks.main(list(words))
         return status, out.getvalue().splitlines(), ran
 
@@ -50,6 +51,19 @@ class Groups(unittest.TestCase):
         self.assertEqual(len(lines), len(names))
         (kills,) = [it for it in lines if it.startswith("kills ")]
         self.assertRegex(kills, r"^kills +0 seconds  NOT ALL AS IT MUST BE$")
+
+    def test_side_by_side_each_runs_once_and_the_longest_begin_first(self):
+        status, lines, ran = self.run_main("all", "--at-once", "3", "--no-evidence", wrong=["limits"])
+        self.assertEqual((status, sorted(it[0] for it in ran)), (1, sorted(set(checks.NAMES) - {"plants"})))
+        self.assertEqual({it[0] for it in ran[:2]}, set(checks.LONGEST))
+        self.assertEqual([it.split()[0] for it in lines if it.endswith("  NOT ALL AS IT MUST BE")], ["limits"])
+
+    def test_a_check_apart_prints_what_it_says_and_ends_as_it_ends(self):
+        out = io.StringIO()
+        with contextlib.redirect_stdout(out):
+            ended = [checks.run_apart(it, None) for it in (["--list"], ["no-check"])]
+        self.assertEqual(ended, [True, False])
+        self.assertIn("kills          Kills the server under load", out.getvalue())
 
     def test_what_lacks_a_tool_is_left_out_and_named(self):
         status, lines, ran = self.run_main("all", "--no-evidence", without=["node", "nginx", "cc"])
