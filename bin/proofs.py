@@ -1,7 +1,8 @@
 """Crates proved side by side where neither stands on the other, as many at once as there are processors and memory for.
 
 The crate with the longest chain of proofs behind it, in the minutes that the last whole gate took for each, is given
-all processors. What is proved already is not proved again. Of a crate that is not proved the log is shown.
+all processors, and another those that no proof waits for. What is proved already is not proved again. Of a crate that
+is not proved the log is shown.
 """
 import copy
 import os
@@ -58,7 +59,8 @@ class Proofs:
 
     def tasks(self):
         """Returns the crates as kit.in_lanes takes them: what each waits for, its work, its memory, and its call."""
-        return {it.name: ([low.name for low in kit.below(it)], *self.needs(it), self.task(it)) for it in self.crates}
+        waits = {it.name: [kit.proof(low.name) for low in kit.below(it)] for it in self.crates}
+        return {kit.proof(it.name): (waits[it.name], *self.needs(it), self.task(it)) for it in self.crates}
 
     def needs(self, crate):
         """Returns the minutes and the memory that a crate's proof is reckoned to take."""
@@ -68,7 +70,7 @@ class Proofs:
         """Returns a call that proves the crate with a number of jobs once the crates below it are proved."""
 
         def call(given, jobs):
-            if not all(given[it.name] for it in kit.below(crate)):
+            if not all(given[kit.proof(it.name)] for it in kit.below(crate)):
                 return False
             jobs, patience = (kit.processors(), 0) if self.is_first(crate) else (jobs, PATIENCE)
             # (of a thread, so that what it starts gives way and nothing else)

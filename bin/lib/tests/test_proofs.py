@@ -1,9 +1,14 @@
 """Tests of which proofs come first."""
+import contextlib
+import io
 import os
 import tempfile
+import threading
 import types
 import unittest
+from unittest import mock
 
+import kit
 import proofs
 
 TABLE = """lane-minutes               proof   tests  mutants     sum  edits  s an edit
@@ -42,6 +47,34 @@ class Chains(unittest.TestCase):
     def test_without_minutes_crates_are_counted(self):
         _, longest = proofs.chains(self.all, {})
         self.assertEqual(longest, {"top": 1.0, "side": 2.0, "file": 2.0, "low": 3.0})
+
+    def proved(self, *failing):
+        """Has the crates proved, but for those that fail. Returns whether all are, and what each was given of jobs, in
+        the order in which they began."""
+        begun, guard = {}, threading.Lock()
+
+        def is_proved(it, jobs, _log):
+            with guard:
+                begun[it.name] = jobs
+            return it.name not in failing
+
+        with mock.patch.object(kit, "is_proved", is_proved), mock.patch.object(kit, "processors", lambda: 4), \
+                mock.patch.object(kit, "memory_of", lambda _: 1), mock.patch.object(kit, "held", contextlib.nullcontext), \
+                mock.patch.dict(os.environ, {"RT_JOBS": ""}), mock.patch.object(kit.scripts(), "processors", lambda: 4):
+            return proofs.Proofs(self.all, lambda _: None).are_made(), begun
+
+    def test_the_longest_chain_gets_all_processors_and_another_what_is_idle(self):
+        with mock.patch.object(proofs, "minutes_of_proofs", lambda: {"low": 2.0, "side": 4.0, "file": 13.2}):
+            are_made, begun = self.proved()
+        self.assertTrue(are_made)
+        self.assertEqual([begun[it] for it in ("low", "file", "top")], [4, 4, 4])
+        self.assertGreater(begun["side"], 1)
+
+    def test_what_stands_on_a_crate_that_is_not_proved_is_not_begun(self):
+        with contextlib.redirect_stderr(io.StringIO()):
+            are_made, begun = self.proved("file")
+        self.assertFalse(are_made)
+        self.assertEqual(set(begun), {"low", "side", "file"})
 
 
 if __name__ == "__main__":
