@@ -37,7 +37,7 @@ computed = tt
 -- where nobody is short any more, the procedure's choice is the greatest
 abbrev pub FindsGreatest : Type 0
 FindsGreatest = (book : Book) (choice : Choice) → Reaches book choice → AllByRecursion (λ code. floor book code
-  ≤ℤ balance_after book choice code) (codes_of book) → IsGreatest book choice
+    ≤ℤ balance_after book choice code) (codes_of book) → IsGreatest book choice
 
 -- ---- ring
 
@@ -85,9 +85,27 @@ pub ring_comes : FindsGreatest → Comes ring_commands ring_replies
 unfolding computed
 ring_comes law = (
   ring_5,
-  as_whole_run start ring_5 ring_commands ring_replies
-      (ring_1, refl, (ring_2, refl, (ring_3, refl, (ring_4, (ring_4_choice, ring_4_greatest law, refl), (ring_5,
-        (ring_5_choice, ring_5_greatest law, refl), refl))))) refl,
+  as_whole_run start ring_5 ring_commands ring_replies (
+    ring_1,
+    refl,
+    (
+      ring_2,
+      refl,
+      (
+        ring_3,
+        refl,
+        (
+          ring_4,
+          (ring_4_choice, ring_4_greatest law, refl),
+          (
+            ring_5,
+            (ring_5_choice, ring_5_greatest law, refl),
+            refl,
+          ),
+        ),
+      ),
+    ),
+  ) refl,
   refl,
 )
 
@@ -105,8 +123,13 @@ deadlock_3_choice = (taken_back beta (taken_back alfa (everything deadlock_2)))
 deadlock_3_greatest : FindsGreatest → IsGreatest deadlock_2 deadlock_3_choice
 unfolding computed
 deadlock_3_greatest law = law deadlock_2 deadlock_3_choice (Without_newest (Without_newest All alfa (inl refl)
-  (record { lt = tt })) beta (inr (inl refl)) (record { lt = tt })) (record { le = tt }, (record { le = tt },
-  (record { le = tt }, tt)))
+    (record { lt = tt })) beta (inr (inl refl)) (record { lt = tt })) (
+      record { le = tt },
+      (
+        record { le = tt },
+        (record { le = tt }, tt),
+      ),
+    )
 
 abbrev deadlock_3 : Book
 deadlock_3 = (resolve deadlock_2 deadlock_3_choice).book
@@ -120,8 +143,13 @@ deadlock_5_choice = (taken_back beta (taken_back alfa (everything deadlock_4)))
 deadlock_5_greatest : FindsGreatest → IsGreatest deadlock_4 deadlock_5_choice
 unfolding computed
 deadlock_5_greatest law = law deadlock_4 deadlock_5_choice (Without_newest (Without_newest All alfa (inl refl)
-  (record { lt = tt })) beta (inr (inl refl)) (record { lt = tt })) (record { le = tt }, (record { le = tt },
-  (record { le = tt }, tt)))
+    (record { lt = tt })) beta (inr (inl refl)) (record { lt = tt })) (
+      record { le = tt },
+      (
+        record { le = tt },
+        (record { le = tt }, tt),
+      ),
+    )
 
 abbrev deadlock_5 : Book
 deadlock_5 = (close_day deadlock_4 deadlock_5_choice monday).book
@@ -131,8 +159,13 @@ deadlock_6_choice = (everything deadlock_5)
 
 deadlock_6_greatest : FindsGreatest → IsGreatest deadlock_5 deadlock_6_choice
 unfolding computed
-deadlock_6_greatest law = law deadlock_5 deadlock_6_choice All (record { le = tt }, (record { le = tt },
-  (record { le = tt }, tt)))
+deadlock_6_greatest law = law deadlock_5 deadlock_6_choice All (
+  record { le = tt },
+  (
+    record { le = tt },
+    (record { le = tt }, tt),
+  ),
+)
 
 abbrev deadlock_6 : Book
 deadlock_6 = (close_day deadlock_5 deadlock_6_choice monday).book
@@ -166,11 +199,43 @@ pub deadlock_comes : FindsGreatest → Comes deadlock_commands deadlock_replies
 unfolding computed
 deadlock_comes law = (
   deadlock_10,
-  as_whole_run start deadlock_10 deadlock_commands deadlock_replies
-      (deadlock_1, refl, (deadlock_2, refl, (deadlock_3, (deadlock_3_choice, deadlock_3_greatest law, refl),
-        (deadlock_4, refl, (deadlock_5, (deadlock_5_choice, deadlock_5_greatest law, refl), (deadlock_6,
-        (deadlock_6_choice, deadlock_6_greatest law, refl), (deadlock_7, refl, (deadlock_8, refl, (deadlock_9, refl,
-        (deadlock_10, refl, refl)))))))))) refl,
+  as_whole_run start deadlock_10 deadlock_commands deadlock_replies (
+    deadlock_1,
+    refl,
+    (
+      deadlock_2,
+      refl,
+      (
+        deadlock_3,
+        (deadlock_3_choice, deadlock_3_greatest law, refl),
+        (
+          deadlock_4,
+          refl,
+          (
+            deadlock_5,
+            (deadlock_5_choice, deadlock_5_greatest law, refl),
+            (
+              deadlock_6,
+              (deadlock_6_choice, deadlock_6_greatest law, refl),
+              (
+                deadlock_7,
+                refl,
+                (
+                  deadlock_8,
+                  refl,
+                  (
+                    deadlock_9,
+                    refl,
+                    (deadlock_10, refl, refl),
+                  ),
+                ),
+              ),
+            ),
+          ),
+        ),
+      ),
+    ),
+  ) refl,
   refl,
 )
 
@@ -191,7 +256,7 @@ partial_4_choice = (taken_back alfa (everything partial_3))
 partial_4_greatest : FindsGreatest → IsGreatest partial_3 partial_4_choice
 unfolding computed
 partial_4_greatest law = law partial_3 partial_4_choice (Without_newest All alfa (inl refl) (record { lt = tt }))
-  (record { le = tt }, (record { le = tt }, (record { le = tt }, tt)))
+    (record { le = tt }, (record { le = tt }, (record { le = tt }, tt)))
 
 abbrev partial_4 : Book
 partial_4 = (resolve partial_3 partial_4_choice).book
@@ -210,9 +275,27 @@ pub partial_comes : FindsGreatest → Comes partial_commands partial_replies
 unfolding computed
 partial_comes law = (
   partial_4,
-  as_whole_run start partial_4 partial_commands partial_replies
-      (partial_1, refl, (partial_2, refl, (partial_3, refl, (partial_4, (partial_4_choice, partial_4_greatest law,
-        refl), refl)))) refl,
+  as_whole_run start partial_4 partial_commands partial_replies (
+    partial_1,
+    refl,
+    (
+      partial_2,
+      refl,
+      (
+        partial_3,
+        refl,
+        (
+          partial_4,
+          (
+            partial_4_choice,
+            partial_4_greatest law,
+            refl,
+          ),
+          refl,
+        ),
+      ),
+    ),
+  ) refl,
   refl,
 )
 
@@ -242,8 +325,8 @@ cascade_7_choice = (taken_back gama (taken_back beta (taken_back alfa (everythin
 cascade_7_greatest : FindsGreatest → IsGreatest cascade_6 cascade_7_choice
 unfolding computed
 cascade_7_greatest law = law cascade_6 cascade_7_choice (Without_newest (Without_newest (Without_newest All alfa
-  (inl refl) (record { lt = tt })) beta (inr (inl refl)) (record { lt = tt })) gama (inr (inr (inl refl)))
-  (record { lt = tt })) (record { le = tt }, (record { le = tt }, (record { le = tt }, tt)))
+    (inl refl) (record { lt = tt })) beta (inr (inl refl)) (record { lt = tt })) gama (inr (inr (inl refl)))
+    (record { lt = tt })) (record { le = tt }, (record { le = tt }, (record { le = tt }, tt)))
 
 abbrev cascade_7 : Book
 cascade_7 = (resolve cascade_6 cascade_7_choice).book
@@ -264,9 +347,31 @@ pub cascade_comes : FindsGreatest → Comes cascade_commands cascade_replies
 unfolding computed
 cascade_comes law = (
   cascade_7,
-  as_whole_run start cascade_7 cascade_commands cascade_replies
-      (cascade_1, refl, (cascade_2, refl, (cascade_3, refl, (cascade_4, refl, (cascade_5, refl, (cascade_6, refl,
-        (cascade_7, (cascade_7_choice, cascade_7_greatest law, refl), refl))))))) refl,
+  as_whole_run start cascade_7 cascade_commands cascade_replies (
+    cascade_1,
+    refl,
+    (
+      cascade_2,
+      refl,
+      (
+        cascade_3,
+        refl,
+        (
+          cascade_4,
+          refl,
+          (
+            cascade_5,
+            refl,
+            (
+              cascade_6,
+              refl,
+              (cascade_7, (cascade_7_choice, cascade_7_greatest law, refl), refl),
+            ),
+          ),
+        ),
+      ),
+    ),
+  ) refl,
   refl,
 )
 
@@ -309,9 +414,23 @@ pub boundary_of_credit_comes : Comes boundary_of_credit_commands boundary_of_cre
 unfolding computed
 boundary_of_credit_comes = (
   boundary_of_credit_7,
-  as_whole_run start boundary_of_credit_7 boundary_of_credit_commands boundary_of_credit_replies
-      (boundary_of_credit_1, refl, (boundary_of_credit_2, refl, (boundary_of_credit_3, refl, (boundary_of_credit_4,
-        refl, (boundary_of_credit_5, refl, (boundary_of_credit_6, refl, (boundary_of_credit_7, refl, refl))))))) refl,
+  as_whole_run start boundary_of_credit_7 boundary_of_credit_commands boundary_of_credit_replies (
+    boundary_of_credit_1,
+    refl,
+    (
+      boundary_of_credit_2,
+      refl,
+      (
+        boundary_of_credit_3,
+        refl,
+        (
+          boundary_of_credit_4,
+          refl,
+          (boundary_of_credit_5, refl, (boundary_of_credit_6, refl, (boundary_of_credit_7, refl, refl))),
+        ),
+      ),
+    ),
+  ) refl,
   refl,
 )
 
@@ -332,8 +451,13 @@ no_bypass_4_choice = (taken_back alfa (taken_back alfa (everything no_bypass_3))
 no_bypass_4_greatest : FindsGreatest → IsGreatest no_bypass_3 no_bypass_4_choice
 unfolding computed
 no_bypass_4_greatest law = law no_bypass_3 no_bypass_4_choice (Without_newest (Without_newest All alfa (inl refl)
-  (record { lt = tt })) alfa (inl refl) (record { lt = tt })) (record { le = tt }, (record { le = tt },
-  (record { le = tt }, tt)))
+    (record { lt = tt })) alfa (inl refl) (record { lt = tt })) (
+      record { le = tt },
+      (
+        record { le = tt },
+        (record { le = tt }, tt),
+      ),
+    )
 
 abbrev no_bypass_4 : Book
 no_bypass_4 = (resolve no_bypass_3 no_bypass_4_choice).book
@@ -352,9 +476,27 @@ pub no_bypass_comes : FindsGreatest → Comes no_bypass_commands no_bypass_repli
 unfolding computed
 no_bypass_comes law = (
   no_bypass_4,
-  as_whole_run start no_bypass_4 no_bypass_commands no_bypass_replies
-      (no_bypass_1, refl, (no_bypass_2, refl, (no_bypass_3, refl, (no_bypass_4, (no_bypass_4_choice,
-        no_bypass_4_greatest law, refl), refl)))) refl,
+  as_whole_run start no_bypass_4 no_bypass_commands no_bypass_replies (
+    no_bypass_1,
+    refl,
+    (
+      no_bypass_2,
+      refl,
+      (
+        no_bypass_3,
+        refl,
+        (
+          no_bypass_4,
+          (
+            no_bypass_4_choice,
+            no_bypass_4_greatest law,
+            refl,
+          ),
+          refl,
+        ),
+      ),
+    ),
+  ) refl,
   refl,
 )
 
@@ -397,9 +539,31 @@ pub finality_comes : Comes finality_commands finality_replies
 unfolding computed
 finality_comes = (
   finality_7,
-  as_whole_run start finality_7 finality_commands finality_replies
-      (finality_1, refl, (finality_2, refl, (finality_3, refl, (finality_4, refl, (finality_5, refl, (finality_6,
-        refl, (finality_7, refl, refl))))))) refl,
+  as_whole_run start finality_7 finality_commands finality_replies (
+    finality_1,
+    refl,
+    (
+      finality_2,
+      refl,
+      (
+        finality_3,
+        refl,
+        (
+          finality_4,
+          refl,
+          (
+            finality_5,
+            refl,
+            (
+              finality_6,
+              refl,
+              (finality_7, refl, refl),
+            ),
+          ),
+        ),
+      ),
+    ),
+  ) refl,
   refl,
 )
 
@@ -462,7 +626,7 @@ cut_off_stops_orders_8_choice = (everything cut_off_stops_orders_7)
 cut_off_stops_orders_8_greatest : FindsGreatest → IsGreatest cut_off_stops_orders_7 cut_off_stops_orders_8_choice
 unfolding computed
 cut_off_stops_orders_8_greatest law = law cut_off_stops_orders_7 cut_off_stops_orders_8_choice All
-  (record { le = tt }, (record { le = tt }, (record { le = tt }, tt)))
+    (record { le = tt }, (record { le = tt }, (record { le = tt }, tt)))
 
 abbrev cut_off_stops_orders_8 : Book
 cut_off_stops_orders_8 = (resolve cut_off_stops_orders_7 cut_off_stops_orders_8_choice).book
@@ -484,11 +648,43 @@ pub cut_off_stops_orders_comes : FindsGreatest → Comes cut_off_stops_orders_co
 unfolding computed
 cut_off_stops_orders_comes law = (
   cut_off_stops_orders_8,
-  as_whole_run start cut_off_stops_orders_8 cut_off_stops_orders_commands cut_off_stops_orders_replies
-      (cut_off_stops_orders_1, refl, (cut_off_stops_orders_2, refl, (cut_off_stops_orders_3, refl,
-        (cut_off_stops_orders_4, refl, (cut_off_stops_orders_5, refl, (cut_off_stops_orders_6, refl,
-        (cut_off_stops_orders_7, refl, (cut_off_stops_orders_8, (cut_off_stops_orders_8_choice,
-        cut_off_stops_orders_8_greatest law, refl), refl)))))))) refl,
+  as_whole_run start cut_off_stops_orders_8 cut_off_stops_orders_commands cut_off_stops_orders_replies (
+    cut_off_stops_orders_1,
+    refl,
+    (
+      cut_off_stops_orders_2,
+      refl,
+      (
+        cut_off_stops_orders_3,
+        refl,
+        (
+          cut_off_stops_orders_4,
+          refl,
+          (
+            cut_off_stops_orders_5,
+            refl,
+            (
+              cut_off_stops_orders_6,
+              refl,
+              (
+                cut_off_stops_orders_7,
+                refl,
+                (
+                  cut_off_stops_orders_8,
+                  (
+                    cut_off_stops_orders_8_choice,
+                    cut_off_stops_orders_8_greatest law,
+                    refl,
+                  ),
+                  refl,
+                ),
+              ),
+            ),
+          ),
+        ),
+      ),
+    ),
+  ) refl,
   refl,
 )
 
@@ -508,8 +704,10 @@ close_with_gridlock_4_choice = (everything close_with_gridlock_3)
 
 close_with_gridlock_4_greatest : FindsGreatest → IsGreatest close_with_gridlock_3 close_with_gridlock_4_choice
 unfolding computed
-close_with_gridlock_4_greatest law = law close_with_gridlock_3 close_with_gridlock_4_choice All (record { le = tt },
-  (record { le = tt }, (record { le = tt }, tt)))
+close_with_gridlock_4_greatest law = law close_with_gridlock_3 close_with_gridlock_4_choice All (
+  record { le = tt },
+  (record { le = tt }, (record { le = tt }, tt)),
+)
 
 abbrev close_with_gridlock_4 : Book
 close_with_gridlock_4 = (close_day close_with_gridlock_3 close_with_gridlock_4_choice monday).book
@@ -522,8 +720,10 @@ close_with_gridlock_6_choice = (everything close_with_gridlock_5)
 
 close_with_gridlock_6_greatest : FindsGreatest → IsGreatest close_with_gridlock_5 close_with_gridlock_6_choice
 unfolding computed
-close_with_gridlock_6_greatest law = law close_with_gridlock_5 close_with_gridlock_6_choice All (record { le = tt },
-  (record { le = tt }, (record { le = tt }, tt)))
+close_with_gridlock_6_greatest law = law close_with_gridlock_5 close_with_gridlock_6_choice All (
+  record { le = tt },
+  (record { le = tt }, (record { le = tt }, tt)),
+)
 
 abbrev close_with_gridlock_6 : Book
 close_with_gridlock_6 = (close_day close_with_gridlock_5 close_with_gridlock_6_choice monday).book
@@ -543,11 +743,35 @@ pub close_with_gridlock_comes : FindsGreatest → Comes close_with_gridlock_comm
 unfolding computed
 close_with_gridlock_comes law = (
   close_with_gridlock_6,
-  as_whole_run start close_with_gridlock_6 close_with_gridlock_commands close_with_gridlock_replies
-      (close_with_gridlock_1, refl, (close_with_gridlock_2, refl, (close_with_gridlock_3, refl,
-        (close_with_gridlock_4, (close_with_gridlock_4_choice, close_with_gridlock_4_greatest law, refl),
-        (close_with_gridlock_5, refl, (close_with_gridlock_6, (close_with_gridlock_6_choice,
-        close_with_gridlock_6_greatest law, refl), refl)))))) refl,
+  as_whole_run start close_with_gridlock_6 close_with_gridlock_commands close_with_gridlock_replies (
+    close_with_gridlock_1,
+    refl,
+    (
+      close_with_gridlock_2,
+      refl,
+      (
+        close_with_gridlock_3,
+        refl,
+        (
+          close_with_gridlock_4,
+          (close_with_gridlock_4_choice, close_with_gridlock_4_greatest law, refl),
+          (
+            close_with_gridlock_5,
+            refl,
+            (
+              close_with_gridlock_6,
+              (
+                close_with_gridlock_6_choice,
+                close_with_gridlock_6_greatest law,
+                refl,
+              ),
+              refl,
+            ),
+          ),
+        ),
+      ),
+    ),
+  ) refl,
   refl,
 )
 
@@ -571,8 +795,13 @@ close_with_overdraft_5_choice = (taken_back alfa (everything close_with_overdraf
 close_with_overdraft_5_greatest : FindsGreatest → IsGreatest close_with_overdraft_4 close_with_overdraft_5_choice
 unfolding computed
 close_with_overdraft_5_greatest law = law close_with_overdraft_4 close_with_overdraft_5_choice
-  (Without_newest All alfa (inl refl) (record { lt = tt })) (record { le = tt }, (record { le = tt },
-  (record { le = tt }, tt)))
+    (Without_newest All alfa (inl refl) (record { lt = tt })) (
+      record { le = tt },
+      (
+        record { le = tt },
+        (record { le = tt }, tt),
+      ),
+    )
 
 abbrev close_with_overdraft_5 : Book
 close_with_overdraft_5 = (close_day close_with_overdraft_4 close_with_overdraft_5_choice monday).book
@@ -592,10 +821,31 @@ pub close_with_overdraft_comes : FindsGreatest → Comes close_with_overdraft_co
 unfolding computed
 close_with_overdraft_comes law = (
   close_with_overdraft_5,
-  as_whole_run start close_with_overdraft_5 close_with_overdraft_commands close_with_overdraft_replies
-      (close_with_overdraft_1, refl, (close_with_overdraft_2, refl, (close_with_overdraft_3, refl,
-        (close_with_overdraft_4, refl, (close_with_overdraft_5, (close_with_overdraft_5_choice,
-        close_with_overdraft_5_greatest law, refl), refl))))) refl,
+  as_whole_run start close_with_overdraft_5 close_with_overdraft_commands close_with_overdraft_replies (
+    close_with_overdraft_1,
+    refl,
+    (
+      close_with_overdraft_2,
+      refl,
+      (
+        close_with_overdraft_3,
+        refl,
+        (
+          close_with_overdraft_4,
+          refl,
+          (
+            close_with_overdraft_5,
+            (
+              close_with_overdraft_5_choice,
+              close_with_overdraft_5_greatest law,
+              refl,
+            ),
+            refl,
+          ),
+        ),
+      ),
+    ),
+  ) refl,
   refl,
 )
 
@@ -606,8 +856,13 @@ first_day_1_choice = (everything unopened)
 
 first_day_1_greatest : FindsGreatest → IsGreatest unopened first_day_1_choice
 unfolding computed
-first_day_1_greatest law = law unopened first_day_1_choice All (record { le = tt }, (record { le = tt },
-  (record { le = tt }, tt)))
+first_day_1_greatest law = law unopened first_day_1_choice All (
+  record { le = tt },
+  (
+    record { le = tt },
+    (record { le = tt }, tt),
+  ),
+)
 
 abbrev first_day_1 : Book
 first_day_1 = (close_day unopened first_day_1_choice monday).book
@@ -617,8 +872,13 @@ first_day_2_choice = (everything first_day_1)
 
 first_day_2_greatest : FindsGreatest → IsGreatest first_day_1 first_day_2_choice
 unfolding computed
-first_day_2_greatest law = law first_day_1 first_day_2_choice All (record { le = tt }, (record { le = tt },
-  (record { le = tt }, tt)))
+first_day_2_greatest law = law first_day_1 first_day_2_choice All (
+  record { le = tt },
+  (
+    record { le = tt },
+    (record { le = tt }, tt),
+  ),
+)
 
 abbrev first_day_2 : Book
 first_day_2 = (resolve first_day_1 first_day_2_choice).book
@@ -653,9 +913,34 @@ pub first_day_comes : FindsGreatest → ComesFrom unopened first_day_commands fi
 unfolding computed
 first_day_comes law = (
   first_day_7,
-  as_whole_run unopened first_day_7 first_day_commands first_day_replies
-      (first_day_1, (first_day_1_choice, first_day_1_greatest law, refl), (first_day_2, (first_day_2_choice,
-        first_day_2_greatest law, refl), (first_day_3, refl, (first_day_4, refl, (first_day_5, refl, (first_day_6,
-        refl, (first_day_7, refl, refl))))))) refl,
+  as_whole_run unopened first_day_7 first_day_commands first_day_replies (
+    first_day_1,
+    (first_day_1_choice, first_day_1_greatest law, refl),
+    (
+      first_day_2,
+      (
+        first_day_2_choice,
+        first_day_2_greatest law,
+        refl,
+      ),
+      (
+        first_day_3,
+        refl,
+        (
+          first_day_4,
+          refl,
+          (
+            first_day_5,
+            refl,
+            (
+              first_day_6,
+              refl,
+              (first_day_7, refl, refl),
+            ),
+          ),
+        ),
+      ),
+    ),
+  ) refl,
   refl,
 )

@@ -344,7 +344,7 @@ fits_add book new credit h = record {
   credits = all_append (λ (p : Participant). IsCredit p.credit)
       (filter (λ (p : Participant). is_before p.code new.code) book.participants) _
       (all_filter (λ (p : Participant). IsCredit p.credit)
-        (λ p. is_before p.code new.code) book.participants h.credits) (
+      (λ p. is_before p.code new.code) book.participants h.credits) (
         credit,
         all_filter (λ (p : Participant). IsCredit p.credit) (λ p. not (is_before p.code new.code))
             book.participants h.credits,

@@ -387,7 +387,7 @@ module _ {S : Type 0} (g : Ghosts S) (in_order : RecordsStandInOrder) (old new :
       }
       | inr w ↦
           let is = w.judged.alone VERSION (state g old).committed.trees
-            (file_of VERSION holds.0 (state g old) holds.1) in
+          (file_of VERSION holds.0 (state g old) holds.1) in
           let older = w.older in
           absurd (omega (arith, is, older))
     ]
@@ -415,7 +415,7 @@ module _ {S : Type 0} (g : Ghosts S) (in_order : RecordsStandInOrder) (old new :
     ])
 
     pub failed_migrates : (fault : Fault) → (fault ≡ OutOfMemory) ⊎ (fault ≡ StoreFault)
-      → Migrates g old new (Err fault)
+        → Migrates g old new (Err fault)
     failed_migrates fault why = refused fault (λ version book it. why)
 
     -- a book was judged
@@ -435,8 +435,11 @@ module _ {S : Type 0} (g : Ghosts S) (in_order : RecordsStandInOrder) (old new :
           record {
             migrated = λ other book older.
                 (refl, (older.content, at other older.content older.rests older.no_more, older.same));
-            repeated = λ book holds. let is = its_version VERSION holds.0 holds.1 in absurd (omega (arith, is,
-              earlier));
+            repeated = λ book holds. let is = its_version VERSION holds.0 holds.1 in absurd (omega (
+              arith,
+              is,
+              earlier,
+            ));
             accepted = λ other book it. tt;
             answered = λ other trees file whole.
                 let is = judged.alone other trees file in

@@ -121,8 +121,7 @@ impl MemoryKeeper {
     }
 
     // Makes one row.
-    #[tactic(auto, unfolding(rtgs_book::specs::Commands::with_participant, rtgs_book::specs::Commands::with_credit,
-        rtgs_book::specs::Commands::with_state, rtgs_book::specs::Commands::let_in))]
+    #[tactic(auto, unfolding(rtgs_book::specs::Commands::with_participant, rtgs_book::specs::Commands::with_credit, rtgs_book::specs::Commands::with_state, rtgs_book::specs::Commands::let_in))]
     fn apply(&mut self, row: &RowChange)
         requires { ListsHaveRoom self.old (row.now ∷ []) }
         ensures made { AreInCodeOrder self.old.participants.items → OrdersAreNumbered (book_of self.old)

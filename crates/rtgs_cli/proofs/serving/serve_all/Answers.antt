@@ -11,20 +11,20 @@ use Rattle.rtgs_cli.proofs.serving.serve_all.Goals as goal
 pub returns-in-Err-clause-printed : goal.returns-in-Err-clause-printed
 returns-in-Err-clause-printed g c =
     lost_prints c.args.service.now.port (g.C.Connections.to_come c.args.connections.now)
-      (g.O.Write.contents c.args.out.now)
+    (g.O.Write.contents c.args.out.now)
     (g.K.Keeper.has_failed c.args.desk.now.keeper) (g.O.Write.contents c.print.new.out) c.in-Err.failed
     c.in-Err.ensures
 
 pub returns-in-Err-clause-taken : goal.returns-in-Err-clause-taken
 returns-in-Err-clause-taken g c =
     none_taken c.args.service.now.port (g.C.Connections.to_come c.args.connections.now)
-      (g.O.Write.contents c.args.out.now) _
+    (g.O.Write.contents c.args.out.now) _
     (g.O.Write.contents c.print.new.out) c.in-Err.failed refl
 
 pub returns-then-failed-clause-taken : goal.returns-then-failed-clause-taken
 returns-then-failed-clause-taken g c =
     taken_until c.args.service.now.port (g.C.Connections.to_come c.args.connections.now)
-      (g.O.Write.contents c.args.out.now) _
+    (g.O.Write.contents c.args.out.now) _
     (g.O.Write.contents c.print.new.out) c.in_default.ensures
 
 pub returns-clause-printed : goal.returns-clause-printed
@@ -39,7 +39,7 @@ returns-clause-printed g c =
     subst (λ printed. Prints (server_text c.args.service.now.port count failed) (stop_of_desk failed) printed old new)
     (sym c.sent.ensures)
     (served_prints c.args.service.now.port count old failed mid new c.print-2.result
-      (sym c.failed.ensures ∙ c.if-failed.false)
+    (sym c.failed.ensures ∙ c.if-failed.false)
     c.in_default.ensures appended)
 
 pub returns-clause-taken : goal.returns-clause-taken

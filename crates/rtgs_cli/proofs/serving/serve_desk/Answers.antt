@@ -13,7 +13,7 @@ returns-in-Ok-clause-served g c =
           made.calm_after_a_crash in
           (works.0, works.1, works.2, made, left)),
       subst (λ count. Prints (server_text c.args.service.now.port count failed) (stop_of_desk failed)
-        c.serve_all-printed.result
+          c.serve_all-printed.result
           (g.O.Write.contents c.args.out.now) (g.O.Write.contents c.serve_all-printed.new.out))
           c.in-Ok.ensures c.serve_all-printed.ensures.printed,
     )

@@ -72,7 +72,7 @@ returns-in-Err-clause-ended g c clean is_open start tables calm =
       so.0,
       c.abandoned.ensures.tables clean so.0 (rw same so.1) trees may,
       as_counted _ _ start so.0 c.args.sessions.now c.loop-session.said.items c.loop-session.session-index i.counted
-        so.2,
+          so.2,
     ))
 
 pub returns-in-Err-clause-back : goal.returns-in-Err-clause-back

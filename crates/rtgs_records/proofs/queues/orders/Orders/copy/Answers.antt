@@ -14,7 +14,7 @@ invariant_of-result c =
       before = subst (AllByRecursion (λ (o : Order). o.number < c.self.inside.next)) (sym same)
           c.self.invariant.before;
       queued = λ sender. c.in_ok-queued.ensures.queued sender ∙ ap
-        (λ orders. numbers_among is_queued_state orders sender)
+          (λ orders. numbers_among is_queued_state orders sender)
           c.as_slice-2.ensures.value;
       held = λ sender. c.in_ok-queued.ensures.held sender ∙ ap (λ orders. numbers_among is_held_state orders sender)
           c.as_slice-2.ensures.value;
