@@ -21,12 +21,12 @@ use Rattle.rtgs_refusals.specs.declared.refusal_kind.RefusalKind.TheVariants.{Fa
 use Rattle.rtgs_refusals.specs.declared.refusal_kind.RefusalKind.TheVariants.{FileExists, NoListen, NoOrderFile}
 
 abbrev kinds : List RefusalKind
-kinds = UnknownParticipant ∷ UnknownReceiver ∷ SameParty ∷ ReferenceUsed ∷ NotOpen ∷ NoCover ∷ QueueFull ∷ NumbersUsedUp
-    ∷ UnknownOrder ∷ CodeTaken ∷ KeyTaken ∷ TooManyParticipants ∷ TotalTooLarge ∷ WrongPhase ∷ WrongDate ∷ Weekend
-    ∷ NotQueued ∷ Resolvable ∷ Overdrawn ∷ DueNotLater ∷ BadCode ∷ BadReference ∷ BadAmount ∷ BadName ∷ BadKey
-    ∷ BadDate ∷ BadHeader ∷ BadRow ∷ BadCount ∷ BadHead ∷ HeadTooLong ∷ NoLength ∷ BodyTooLong ∷ Truncated ∷ BadJson ∷ WrongFields
-    ∷ NoSuchRoute ∷ NoKey ∷ AnswerLost ∷ OutOfMemory ∷ StoreFault ∷ Failed ∷ NotADeskFile ∷ Inconsistent ∷ InUse
-    ∷ FileExists ∷ NoListen ∷ NoOrderFile ∷ []
+kinds = UnknownParticipant ∷ UnknownReceiver ∷ SameParty ∷ ReferenceUsed ∷ NotOpen ∷ NoCover ∷ QueueFull
+    ∷ NumbersUsedUp ∷ UnknownOrder ∷ CodeTaken ∷ KeyTaken ∷ TooManyParticipants ∷ TotalTooLarge ∷ WrongPhase
+    ∷ WrongDate ∷ Weekend ∷ NotQueued ∷ Resolvable ∷ Overdrawn ∷ DueNotLater ∷ BadCode ∷ BadReference ∷ BadAmount
+    ∷ BadName ∷ BadKey ∷ BadDate ∷ BadHeader ∷ BadRow ∷ BadCount ∷ BadHead ∷ HeadTooLong ∷ NoLength ∷ BodyTooLong
+    ∷ Truncated ∷ BadJson ∷ WrongFields ∷ NoSuchRoute ∷ NoKey ∷ AnswerLost ∷ OutOfMemory ∷ StoreFault ∷ Failed
+    ∷ NotADeskFile ∷ Inconsistent ∷ InUse ∷ FileExists ∷ NoListen ∷ NoOrderFile ∷ []
 
 -- the kind with a number
 abbrev numbered : ℕ → RefusalKind
