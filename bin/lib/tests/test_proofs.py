@@ -49,7 +49,7 @@ class Chains(unittest.TestCase):
         self.assertEqual(longest, {"top": 1.0, "side": 2.0, "file": 2.0, "low": 3.0})
 
     def proved(self, *failing):
-        """Has the crates proved, but for those that fail. Returns whether all are, and what each was given of jobs, in
+        """Has the crates proved, except those that fail. Returns whether all are, and what each was given of jobs, in
         the order in which they began."""
         begun, guard = {}, threading.Lock()
 
