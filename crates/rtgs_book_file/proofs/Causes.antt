@@ -11,7 +11,7 @@ use Rattle.rtgs_book_file.specs.Causes.{fault_of_cause, ShowsNoBook, BarsBook}
 use Rattle.rtgs_book_file.specs.Refused.{IsNotLocked, IsNotVacant, HasNoBook, IsNotMade, IsUnopened, IsUnmadeIn}
 use Rattle.rtgs_book_file.specs.declared.cause.Cause.{Cause}
 use Rattle.rtgs_book_file.specs.declared.cause.Cause.TheVariants.{NotLocked, NotVacant, NotReadable, NotReached}
-use Rattle.rtgs_book_file.specs.declared.cause.Cause.TheVariants.{Abandoned}
+use Rattle.rtgs_book_file.specs.declared.cause.Cause.TheVariants.{NotStarted, Abandoned}
 use Rattle.rtgs_book_file.specs.declared.file_fault.FileFault.{FileFault}
 use Rattle.rtgs_book_file.specs.declared.file_fault.FileFault.TheVariants.{InUse, FileExists, Book}
 
@@ -42,6 +42,7 @@ module _ {K D : Type 0} {g : disk.Ghosts D} (k : Ghosts K) (conn : K → Held (F
     shows_none (NotLocked refused) why = absurd why
     shows_none (NotVacant taken) why = absurd why
     shows_none (NotReadable unread) why = (unread.fault, refl, inl why)
+    shows_none (NotStarted unstarted) why = absurd why
     shows_none (NotReached unreached) why = (unreached.fault, refl, inr (inl why))
     shows_none (Abandoned fault closed) why = (fault, refl, inr (inr (files_of closed, why)))
 
@@ -50,6 +51,7 @@ module _ {K D : Type 0} {g : disk.Ghosts D} (k : Ghosts K) (conn : K → Held (F
     opens_none (NotLocked refused) why = absurd why
     opens_none (NotVacant taken) why = absurd why
     opens_none (NotReadable unread) why = inr (inl why)
+    opens_none (NotStarted unstarted) why = absurd why
     opens_none (NotReached unreached) why = inr (inr (inl why))
     opens_none (Abandoned fault closed) why = inr (inr (inr (files_of closed, why)))
 
@@ -57,5 +59,6 @@ module _ {K D : Type 0} {g : disk.Ghosts D} (k : Ghosts K) (conn : K → Held (F
     bars (NotLocked refused) why = absurd why
     bars (NotVacant taken) why = not_vacant taken.fault why
     bars (NotReadable unread) why = absurd why
-    bars (NotReached unreached) why = inr (inl why)
-    bars (Abandoned fault closed) why = inr (inr (files_of closed, why))
+    bars (NotStarted unstarted) why = inr (inl why)
+    bars (NotReached unreached) why = inr (inr (inl why))
+    bars (Abandoned fault closed) why = inr (inr (inr (files_of closed, why)))

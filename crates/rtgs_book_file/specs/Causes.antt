@@ -8,9 +8,10 @@ use Rattle.sqlite.specs.declared.FileStore.{FileStore}
 use Rattle.rtgs_keeper.specs.declared.keeper.Keeper.{Ghosts}
 use Rattle.rtgs_book_file.specs.Refused.{IsNotLocked, IsNotVacant, ShowsFault, IsNoBook, WasRefused, WasUnmade}
 use Rattle.rtgs_book_file.specs.Refused.{WasUnmigrated}
+use Rattle.rtgs_book_file.specs.Starting.{IsNotStarted}
 use Rattle.rtgs_book_file.specs.declared.cause.Cause.{Cause}
 use Rattle.rtgs_book_file.specs.declared.cause.Cause.TheVariants.{NotLocked, NotVacant, NotReadable, NotReached}
-use Rattle.rtgs_book_file.specs.declared.cause.Cause.TheVariants.{Abandoned}
+use Rattle.rtgs_book_file.specs.declared.cause.Cause.TheVariants.{NotStarted, Abandoned}
 use Rattle.rtgs_book_file.specs.declared.file_fault.FileFault.{FileFault}
 use Rattle.rtgs_book_file.specs.declared.file_fault.FileFault.TheVariants.{Book}
 
@@ -19,6 +20,7 @@ abbrev pub fault_of_cause : {B : Type 0} → Cause B → FileFault
 fault_of_cause (NotLocked refused) = refused.fault
 fault_of_cause (NotVacant taken) = taken.fault
 fault_of_cause (NotReadable unread) = Book unread.fault
+fault_of_cause (NotStarted unstarted) = Book unstarted.fault
 fault_of_cause (NotReached unreached) = Book unreached.fault
 fault_of_cause (Abandoned fault closed) = Book fault
 
@@ -47,6 +49,7 @@ module _ {K D : Type 0} {g : disk.Ghosts D} (k : Ghosts K) (conn : K → Held (F
   -- why no book was made in a file whose lock was taken, and in what state the file is left that was opened
   abbrev pub BarsBook : Cause B → Type 0
   BarsBook (NotVacant taken) = IsNotVacant taken.fault
+  BarsBook (NotStarted unstarted) = IsNotStarted unstarted.fault
   BarsBook (NotReached unreached) = IsNoBook g held unreached.fault
   BarsBook (Abandoned fault closed) = WasUnmade k conn held fault (files_of closed)
   BarsBook _ = ⊥

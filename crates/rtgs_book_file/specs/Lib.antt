@@ -8,4 +8,5 @@ pub mod LockName
 pub mod Opened
 pub mod OverFile
 pub mod Refused
+pub mod Starting
 pub mod stored_desk

@@ -24,6 +24,7 @@ use Rattle.rtgs_book_file.specs.stored_desk.Migrated.{IsUnmigrated}
 use Rattle.rtgs_book_file.specs.stored_desk.Stored.{HasNoSchema, IsRefused, IsUnmade}
 use Rattle.rtgs_book_file.specs.Closed.{LeavesNoMore}
 use Rattle.rtgs_book_file.specs.Files.{vacancy_of, opening_of, fault_of_store}
+use Rattle.rtgs_book_file.specs.Starting.{IsNotStarted}
 use Rattle.rtgs_book_file.specs.declared.file_fault.FileFault.{FileFault}
 use Rattle.rtgs_book_file.specs.declared.file_fault.FileFault.TheVariants.{InUse, FileExists, Book}
 use Rattle.rtgs_book_file.specs.declared.limits.TheConstants.{MOST_OBJECTS}
@@ -139,8 +140,8 @@ module _ {K D : Type 0} {g : disk.Ghosts D} (k : Ghosts K) (conn : K → Held (F
   abbrev pub IsNotMade : FileFault → Type 0
   IsNotMade InUse = ⊥
   IsNotMade FileExists = IsNotVacant FileExists
-  IsNotMade (Book fault) =
-      IsNotVacant (Book fault) ⊎ (IsNoBook g held fault ⊎ ((files : Files D) × WasUnmade fault files))
+  IsNotMade (Book fault) = IsNotVacant (Book fault)
+      ⊎ (IsNotStarted fault ⊎ (IsNoBook g held fault ⊎ ((files : Files D) × WasUnmade fault files)))
 
   -- why no book was made in a file
   abbrev pub IsUnmadeIn : FileFault → Type 0

@@ -7,6 +7,7 @@ use crate::file_fault::FileFault;
 use crate::not_locked::NotLocked;
 use crate::not_reached::NotReached;
 use crate::not_readable::NotReadable;
+use crate::not_started::NotStarted;
 use crate::not_vacant::NotVacant;
 use rtgs_book::Fault;
 
@@ -20,6 +21,8 @@ pub(crate) enum Cause<B> {
     NotVacant(NotVacant),
     /// The file does not begin as a database does, or its beginning could not be read.
     NotReadable(NotReadable),
+    /// No database was made in the file of a new book.
+    NotStarted(NotStarted),
     /// The store did not open.
     NotReached(NotReached),
     /// The store opened, and was abandoned with this fault.
@@ -35,6 +38,7 @@ impl<B> Cause<B> {
             Cause::NotLocked(refused) => refused.fault(),
             Cause::NotVacant(taken) => taken.fault(),
             Cause::NotReadable(unread) => FileFault::from(unread.fault()),
+            Cause::NotStarted(unstarted) => FileFault::from(unstarted.fault()),
             Cause::NotReached(unreached) => FileFault::from(unreached.fault()),
             Cause::Abandoned(fault, _) => FileFault::from(*fault),
         }
@@ -54,6 +58,14 @@ impl<B> From<NotReadable> for Cause<B> {
 
     fn from(unread: NotReadable) -> Cause<B> {
         Cause::NotReadable(unread)
+    }
+}
+
+impl<B> From<NotStarted> for Cause<B> {
+    ghost from_gives = { λ unstarted answer. answer ≡ cause.NotStarted unstarted };
+
+    fn from(unstarted: NotStarted) -> Cause<B> {
+        Cause::NotStarted(unstarted)
     }
 }
 

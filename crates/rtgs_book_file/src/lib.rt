@@ -19,6 +19,7 @@ mod looks;
 mod migration;
 mod not_locked;
 mod not_reached;
+mod not_started;
 mod not_readable;
 mod not_vacant;
 mod object_count;

@@ -1,5 +1,5 @@
 //! The book in a file.
-ghost use Rattle.std.specs.Prelude.{◌≡◌, ◌⊎◌, Some, IfOk, IfErr};
+ghost use Rattle.std.specs.Prelude.{◌≡◌, ◌⊎◌, Some, IfOk, IfErr, OnOk};
 ghost use Rattle.std.specs.Borrow.{sem};
 ghost use Rattle.sqlite.specs.Files.{file_state};
 ghost use Rattle.sqlite.specs.State.{HasCleanDisk};
@@ -10,6 +10,7 @@ ghost use Rattle.rtgs_book_file.specs.Lending.{LendsDesk};
 ghost use Rattle.rtgs_book_file.specs.Opened.{WasOpened, WasMade};
 ghost use Rattle.rtgs_book_file.specs.Refused.{HasNoBook, IsNotMade, IsUnopened, IsUnmadeIn};
 ghost use Rattle.rtgs_book_file.specs.Causes.{fault_of_cause, ShowsNoBook, BarsBook};
+ghost use Rattle.rtgs_book_file.specs.Starting.{IsStarted};
 
 use crate::abandoned_book::AbandonedBook;
 use crate::book_lock::BookLock;
@@ -24,7 +25,8 @@ use crate::store::{FileKeeper, connect};
 use crate::unopened::Unopened;
 use rtgs_desk::Desk;
 use rtgs_keeper::Keeper;
-use sqlite::{Start, Unknown};
+use sqlite::{FileFrom, Start, Unknown};
+use sqlite_disk::Disk;
 
 /// A desk over the book in a file, and the lock of the file. Only a lock makes one, and as it cannot be dropped, it
 /// ends by `finish` alone.
@@ -58,10 +60,12 @@ impl<S: Start> BookLock<'_, S> {
     }
 
     /// Makes the tables of a new book in the file, closes it, and releases the lock. `FileExists` where the file holds
-    /// anything, and a fault of the book where the file cannot be looked at, or the store fails.
+    /// anything, and a fault of the book where the file cannot be looked at, or the store fails. First the database is
+    /// made; the clauses that name `S` speak of the files as they are then.
     pub fn make(self, rt: &HostRuntime) -> Result<Released<S>, Unopened<S>>
         ensures made { IfOk result (λ made. WasMade ⟦<FileKeeper<S> as Keeper>⟧ (λ keeper. keeper.conn)
             (image_at S.Start) made.files.value) }
+        ensures started { OnOk result (IsStarted ⟦<FileFrom<Unknown> as Disk>⟧ (image_at ⟦<Unknown as Start>⟧)) }
         ensures held { IfOk result (λ made. made.name.value ≡ self.entry.locked.name) }
         ensures refused { IfErr result (λ unopened.
             IsNotMade ⟦<FileKeeper<S> as Keeper>⟧ (λ keeper. keeper.conn) (image_at S.Start) unopened.fault) }
@@ -136,21 +140,22 @@ fn open_desk<S: Start>(
     }
 }
 
-// Makes the tables of a new book in a file whose lock was taken, and closes it. The clauses speak of the files as they
-// are once `make_database` has done what it could: no contract says what that was.
+// Makes a database and the tables of a new book in a file whose lock was taken, and closes it. The clauses that name `S`
+// speak of the files as they are once the database is made.
 fn make_book<S: Start>(
     rt: &HostRuntime,
     lock: BookLock<'_, S>,
 ) -> Result<Released<S>, Cause<AbandonedBook<S>>>
     ensures made { IfOk result (λ closed.
         WasMade ⟦<FileKeeper<S> as Keeper>⟧ (λ keeper. keeper.conn) (image_at S.Start) closed.files.value) }
+    ensures started { OnOk result (IsStarted ⟦<FileFrom<Unknown> as Disk>⟧ (image_at ⟦<Unknown as Start>⟧)) }
     ensures held { IfOk result (λ closed. closed.name.value ≡ lock.entry.locked.name) }
     ensures refused { IfErr result (BarsBook ⟦<FileKeeper<S> as Keeper>⟧ (λ keeper. keeper.conn)
         (image_at S.Start) (λ closed. closed.files.value)) }
 {
     let path = lock.path();
     let file = lock.with_nothing(rt)?;
-    make_database(rt, path, Unknown);
+    make_database(rt, path, Unknown)?;
     make_tables(rt, file)
 }
 
