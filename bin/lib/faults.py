@@ -1,9 +1,8 @@
 """Runs of the program in which calls on a file fail, what such a run may say, and which book it may leave.
 
-A run that fails says so by refusal 91, or by 95 where the file is the lock; `init` also by 93, where it wrote a part of
-a file that is then no database. What it said before must be a beginning of
+A run that fails says so by refusal 91, or by 95 where the file is the lock. What it said before must be a beginning of
 what the run says without a fault. The book that is left must be that of all that was answered, or of this and the
-command that failed, whole.
+command that failed, whole. `init` makes names, so it must not answer once a sync of their folder failed.
 """
 import collections
 import errno
@@ -166,9 +165,9 @@ def after(trial, said, fault):
     leave."""
     last, number = trial.last(), 95 if fault.name == LOCK else 91
     if said == trial.good:
+        if trial.words[0] == "init" and fault.kind == "sync" and fault.name == watched.FOLDER:
+            raise Wrong("it passes over a sync of the folder that failed")
         return ANSWERED, range(last, last + 1)
-    if trial.words[0] == "init" and is_refused(trial, said.ran, 93):
-        return REFUSED.format(93), range(1)
     if not said.replies and is_refused(trial, said.ran, number):
         is_as_before = number == 95 or trial.words[0] in NOTHING_DONE
         return REFUSED.format(number), range(1 if is_as_before else min(1, last) + 1)

@@ -6,12 +6,12 @@ kinds are to open, read, write, cut and sync a file, each with EIO and with ENOS
 rights, and have the system forget what it read, with EIO. In commands that act a call also fails together with each
 later one of its kind on the file, and a write once half of one is made.
 
-A run must end as it does without a fault, or by refusal 91, or by 95 where the lock fails; `init` may also say 93 of a
-part of a file that it wrote. It must say nothing that it does not say without a fault. What it leaves must be the book
-of the commands that were answered, or of these and the one that failed, whole: the same command, given again, must do
-the rest. Where a call failed that changes a file, so must what a power cut may leave after the run: there what a sync
-of a file that failed was to make safe is lost, and a name is safe after any later sync of the folder. Needs a C
-compiler, `cc`.
+A run must end as it does without a fault, or by refusal 91, or by 95 where the lock fails; `init` must be refused if a
+sync of the folder fails. It must say nothing that it does not say without a fault. What it leaves must be the book of
+the commands that were answered, or of these and the one that failed, whole: the same command, given again, must do the
+rest. Where a call failed that changes a file, so must what a power cut may leave after the run: there what a sync of a
+file that failed was to make safe is lost, and a name is safe after any later sync of the folder. Needs a C compiler,
+`cc`.
 
 Shows: that each of these runs ends with its answer or a refusal that is allowed, and says nothing that is not in the
 book; and that it leaves the book of the answered commands, or of the open one too, whole.

@@ -12,7 +12,7 @@ from lib import crash_images, desks, faults, lives, runs, watched
 from lib.crash_images import History
 from lib.faults import Fault, Said
 from lib.runs import Ran
-from lib.watched import FAILED, MADE, SYNC, WRITE, Event
+from lib.watched import FAILED, FOLDER, MADE, SYNC, WRITE, Event
 
 BOOK = lives.BOOK
 EMPTY = b"." * 8
@@ -161,8 +161,8 @@ class Ends(unittest.TestCase):
         trial.good, trial.life = Said(Ran(0, out), replies), mock.Mock(books=[None] * books)
         return trial
 
-    def after(self, trial, ran, replies=(), name=BOOK):
-        return faults.after(trial, Said(ran, replies), Fault("write", name, 1, faults.ONCE))
+    def after(self, trial, ran, replies=(), name=BOOK, kind="write"):
+        return faults.after(trial, Said(ran, replies), Fault(kind, name, 1, faults.ONCE))
 
     def test_a_command_that_is_refused_may_have_acted(self):
         trial = self.trial(["post"], "posted 1\n")
@@ -177,6 +177,20 @@ class Ends(unittest.TestCase):
         self.assertEqual(self.after(trial, runs.refused(95), (), faults.LOCK), ("refused with 95", range(0, 1)))
         with self.assertRaises(faults.Wrong):
             self.after(trial, runs.refused(91), (), faults.LOCK)
+
+    def test_a_fault_while_a_book_is_made_is_no_other_file(self):
+        trial = self.trial(["init"])
+        self.assertEqual(self.after(trial, runs.refused(91)), ("refused with 91", range(0, 2)))
+        for wrong in (93, 96):
+            with self.assertRaises(faults.Wrong):
+                self.after(trial, runs.refused(wrong))
+
+    def test_a_book_is_not_made_whose_name_may_be_lost(self):
+        trial = self.trial(["init"])
+        self.assertEqual(self.after(trial, Ran(0, ""), kind="sync"), (faults.ANSWERED, range(1, 2)))
+        self.assertEqual(self.after(trial, runs.refused(91), (), FOLDER, "sync"), ("refused with 91", range(0, 2)))
+        with self.assertRaisesRegex(faults.Wrong, "passes over a sync of the folder"):
+            self.after(trial, Ran(0, ""), (), FOLDER, "sync")
 
     def test_a_statement_may_have_begun_with_whole_lines(self):
         trial = self.trial(["statement"], "one\ntwo\n", books=1)
