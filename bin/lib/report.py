@@ -2,10 +2,13 @@
 
 
 class Report:
-    """The findings of one check. `right` and `wrong` count what was looked at and was as it must be, or not."""
+    """The findings of one check, of which the last is their sum. `right` and `wrong` count what was looked at and was
+    as it must be, or not."""
 
     def __init__(self, show=print):
         self.show, self.found, self.right, self.wrong = show, [], 0, 0
+        # how many lines were found with the sum
+        self.lines_with_sum = None
 
     def tells(self, line):
         """Prints a line alone."""
@@ -19,6 +22,15 @@ class Report:
         """Prints a line, and keeps it as evidence."""
         self.keeps(line)
         self.tells(line)
+
+    def sums(self, line):
+        """Finds the line that sums up all the others, after them."""
+        self.finds(line)
+        self.lines_with_sum = len(self.found)
+
+    def is_summed(self):
+        """Returns whether the last finding is the sum."""
+        return self.lines_with_sum == len(self.found)
 
     def judges(self, is_well, line):
         """Counts a thing that was looked at, and tells it, and finds it where it is not as it must be."""

@@ -149,7 +149,7 @@ def shown(left_out):
 
 def leave_out(seed, report):
     """Leaves out syncs of each sort, and tells which the disks show, and of the others why they do not. What something
-    rests on they must show each time, and the others never."""
+    rests on they must show each time, and the others never. Returns how many are shown of how many."""
     found = sorts(seed)
     tried = [it for _, some in found.values() for it in some]
     with crashes.pool() as workers:
@@ -158,6 +158,7 @@ def leave_out(seed, report):
         of_sort = {kind: it for (kind, *rest), it in found.items() if rest == [name, what]}
         tells(f"{FILES[name]}, {what}", of_sort, answers, report)
     report.sees("what no sync made safe", sorted({*MUST, *WHY} - {COVERED, *(what for _, _, what in found)}), [])
+    return sum(bool(it) for it in answers.values()), len(tried)
 
 
 def tells(sort, of_kinds, answers, report):

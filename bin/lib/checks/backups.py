@@ -219,5 +219,5 @@ def run(_given, report):
             damaged(book, to, folder, report)
             last(book, to, report)
             restored(book, to, server, report)
-    report.finds(f"{COPIES} copies under load, {KILLED} that were ended, a full disk, a damaged book and a copy put "
-                 f"back: {report.right} things as they must be, {report.wrong} not")
+    report.sums(f"{COPIES} copies under load, {KILLED} that were ended, a full disk, a damaged book and a copy put "
+                f"back: {report.right} things as they must be, {report.wrong} not")

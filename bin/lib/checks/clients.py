@@ -174,4 +174,4 @@ def run(given, report):
     if not given.only:
         with desks.room() as folder:
             follow(Alone(folder, report), report)
-    report.finds(f"all clients: {report.right} things as they must be, {report.wrong} not")
+    report.sums(f"all clients: {report.right} things as they must be, {report.wrong} not")

@@ -33,8 +33,7 @@ def run(given, report):
 
     counts = kills.kill_again_and_again(given.rounds, report, copy, COPY)
     report.finds(f"held still for {statistics.median(pauses):.0f} ms ({min(pauses):.0f} to {max(pauses):.0f})")
-    if not report.wrong:
-        report.finds(counts.told("copies and kills"))
+    kills.sums("copies and kills", counts, report)
 
 
 def copy_held_still(server, book):

@@ -25,12 +25,13 @@ MOST = 1000
 def run(given, report):
     with desks.room() as folder:
         library = desks.library("ending", folder)
-        for name, within in {"before": {}, "within": {"DESK_ENDS_WITHIN": "1"}}.items():
-            try_each(f"{folder}/{name}.desk", {**os.environ, "LD_PRELOAD": library, **within}, name, report)
+        ended = [try_each(f"{folder}/{name}.desk", {**os.environ, "LD_PRELOAD": library, **within}, name, report)
+                 for name, within in {"before": {}, "within": {"DESK_ENDS_WITHIN": "1"}}.items()]
+    report.sums(f"`init` ended {sum(ended)} times: {report.right} things as they must be, {report.wrong} not")
 
 
 def try_each(book, environment, name, report):
-    """Ends `init` at each of its calls, and counts what is left."""
+    """Ends `init` at each of its calls, and counts what is left. Returns how often it was ended."""
     counts = {"no book": 0, "the whole book": 0}
     for at in range(1, MOST):
         desks.remove(book)
@@ -39,7 +40,7 @@ def try_each(book, environment, name, report):
             report.sees("a call at which it was ended", at > 1, True)
             told = ", ".join(f"{what} {count} times" for what, count in counts.items())
             report.finds(f"`init` ended {name} each of {at - 1} calls: {told}")
-            return
+            return at - 1
         report.sees(f"the end {name} call {at}", ended[0], -signal.SIGKILL)
         counts[left(book, f"{name} call {at}", report)] += 1
     raise desks.Broken("`init` never ends by itself")

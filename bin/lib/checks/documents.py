@@ -488,4 +488,4 @@ def run(_given, report):
     measures(read(COSTS), report.sees)
     plain_words(report.sees)
     evidence_is_told(report)
-    report.finds(f"{report.right} things as they must be, {report.wrong} not")
+    report.sums(f"{report.right} things as they must be, {report.wrong} not")

@@ -406,5 +406,5 @@ def run(_given, report):
         other_names(edges)
     must = set(runs.refusals()) - OF_ROWS - AT_THE_LAST_NUMBER - NEVER - (set() if is_whole else {90})
     report.sees("refusals that were met", sorted(edges.met), sorted(must))
-    report.finds(f"{len(edges.met)} refusals of runs, help, full streams, {MEMORY if is_whole else 'ample memory'}: "
-                 f"{report.right} things as they must be, {report.wrong} not")
+    report.sums(f"{len(edges.met)} refusals of runs, help, full streams, {MEMORY if is_whole else 'ample memory'}: "
+                f"{report.right} things as they must be, {report.wrong} not")

@@ -186,8 +186,8 @@ def tells(found, report):
     report.sees("runs that are not as they must be, and books that are not allowed", len(found.wrong), 0)
     ends = ", ".join(f"{it} {found.ends[it]}" for it in sorted(found.ends))
     count = sum(found.calls.values())
-    report.finds(f"{count} faults in {len(faults.TRIALS)} commands: {ends}; {found.opened} disks were opened; "
-                 f"{len(found.wrong)} runs were not as they must be")
+    report.sums(f"{count} faults in {len(faults.TRIALS)} commands: {ends}; {found.opened} disks were opened; "
+                f"{len(found.wrong)} runs were not as they must be")
 
 
 def tells_trial(trial, calls, report):

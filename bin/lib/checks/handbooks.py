@@ -320,4 +320,4 @@ def run(_given, report):
         with desks.room() as folder, Session(folder) as session:
             follow(session, report)
         report.finds(f"{name}: {report.right - right} as they say, {report.wrong - wrong} not")
-    report.finds(f"{len(shown)} texts: {report.right} things as they say, {report.wrong} not")
+    report.sums(f"{len(shown)} texts: {report.right} things as they say, {report.wrong} not")

@@ -165,4 +165,4 @@ def run(given, report):
             trial.try_files(given.only)
             if not given.only or "chance" in given.only:
                 trial.try_by_chance(CHANGED_BY_CHANCE)
-    report.finds(f"{report.wrong} of the files were changed, or had an answer that no operator is told of")
+    report.sums(f"{report.wrong} of the files were changed, or had an answer that no operator is told of")

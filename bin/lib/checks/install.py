@@ -141,5 +141,5 @@ def run(_given, report):
         sees("a second installation", again, paths)
         removed(prefix, paths, sees)
     shells = [it for it in ("bash", "zsh", "fish") if shutil.which(it)]
-    report.finds(f"{len(paths)} files, shells: {', '.join(shells)}; "
-                 f"{report.right} things as they must be, {report.wrong} not")
+    report.sums(f"{len(paths)} files, shells: {', '.join(shells)}; "
+                f"{report.right} things as they must be, {report.wrong} not")

@@ -180,7 +180,11 @@ def kill_again_and_again(rounds, report, before_a_kill, end):
     return counts
 
 
+def sums(what, counts, report):
+    """Sums up what was counted, where it was done so and all was as it must be."""
+    report.sums(f"{report.wrong} things were not as they must be" if report.wrong else counts.told(what))
+
+
 def run(given, report):
     counts = kill_again_and_again(given.rounds, report, lambda server, book: None, "")
-    if not report.wrong:
-        report.finds(counts.told("kills"))
+    sums("kills", counts, report)

@@ -164,4 +164,4 @@ def run(given, report):
             report.finds(kind.version())
             compared(kind, book, orders, report)
         lines(book, report)
-    report.finds(f"a day of {orders} orders: {report.right} things as they must be, {report.wrong} not")
+    report.sums(f"a day of {orders} orders: {report.right} things as they must be, {report.wrong} not")

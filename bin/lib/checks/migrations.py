@@ -201,5 +201,5 @@ def run(_given, report):
                 books.refused(version, made["an open day"], change, 94, str(rule))
             for change in NO_DESK + NO_DESK_OF[version]:
                 books.refused(version, made["an open day"], change, 93)
-    report.finds(f"tables of {len(desks.OLDER)} versions: {migrated} books migrated, and unsound books and files that "
-                 f"are no desk's refused: {report.right} things as they must be, {report.wrong} not")
+    report.sums(f"tables of {len(desks.OLDER)} versions: {migrated} books migrated, and unsound books and files that "
+                f"are no desk's refused: {report.right} things as they must be, {report.wrong} not")

@@ -175,4 +175,4 @@ def run(_given, report):
     examples(description, report.sees)
     refusals(description, report.sees)
     session(description, report)
-    report.finds(f"{report.right} things as they must be, {report.wrong} not")
+    report.sums(f"{report.right} things as they must be, {report.wrong} not")

@@ -33,4 +33,4 @@ def run(given, report):
         for line in PROVED.findall(said):
             report.finds(f"    {line.strip()}")
     proved = sum(len(PROVED.findall(said)) for said in told)
-    report.finds(f"{len(told)} crates: {proved} wrong bodies are proved, each listed for a reader to judge")
+    report.sums(f"{len(told)} crates: {proved} wrong bodies are proved, each listed for a reader to judge")

@@ -193,8 +193,11 @@ def run(given, report):
         crashes.LIVES[:] = [life for life, _ in judged]
         for life, acted in judged:
             tells_life(life, acted, report)
-        tells_disks(crashes.cut_everywhere(images, KINDS, seed), images, report)
-        unsynced.leave_out(seed, report)
+        found = crashes.cut_everywhere(images, KINDS, seed)
+        tells_disks(found, images, report)
+        shown, tried = unsynced.leave_out(seed, report)
+    report.sums(f"{images} disks, of which {len(found.wrong)} hold another book; {shown} of {tried} syncs that were "
+                f"left out are found; {report.right} things as they must be, {report.wrong} not")
 
 
 def tells_life(life, acted, report):

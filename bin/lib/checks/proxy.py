@@ -203,4 +203,4 @@ def run(_given, report):
         opened(kind, report)
         report.finds(f"{kind.NAME}: BANKS.md, closed routes, other forms, a slow bank, 502 and 504: "
                      f"{report.right - before[0]} as they must be, {report.wrong - before[1]} not")
-    report.finds(f"{len(proxies.ALL)} proxies: {report.right} as they must be, {report.wrong} not")
+    report.sums(f"{len(proxies.ALL)} proxies: {report.right} as they must be, {report.wrong} not")

@@ -58,12 +58,15 @@ def options(words):
 def run(given, report):
     seed = random.SystemRandom().randrange(10**9) if given.seed is None else given.seed
     report.finds(f"seed {seed}")
+    long, short, commands = f"a day of {given.orders} orders", f"{given.days} short days", 0
     with desks.room() as folder:
         if given.orders:
             counts = played(folder, Drawer(f"{seed} long", LONG), long_day(given.orders), report)
-            judge(f"a day of {given.orders} orders", counts, MET, report)
+            commands += judge(long, counts, MET, report)
         if given.days:
-            judge(f"{given.days} short days", short_days(folder, seed, given.days, report), MET_IN_SHORT_DAYS, report)
+            commands += judge(short, short_days(folder, seed, given.days, report), MET_IN_SHORT_DAYS, report)
+    report.sums(f"{long} and {short}, {commands} commands over two books: {report.right} things as they must be, "
+                f"{report.wrong} not")
 
 
 def played(folder, drawer, days, report):
@@ -157,9 +160,10 @@ def end(pair):
 
 
 def judge(what, counts, met, report):
-    """Tells what was counted, and sees that all was met."""
+    """Tells what was counted, and sees that all was met. Returns how many commands were given."""
     report.finds(f"{what}:")
     for it in sorted(counts):
         report.finds(f"{counts[it]:8} {it}")
     for it in met:
         report.sees(f"{what}: {it}", counts[it] > 0, True)
+    return counts["commands"]

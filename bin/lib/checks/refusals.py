@@ -123,7 +123,7 @@ def each_request(names, report):
                 report.keeps(f"{program.crate}/{test}: {summed(found)}")
                 report.counts(all(word in OUTCOMES for word in found))
                 calls, requests = calls + 1, requests + len(found)
-    report.finds(f"{requests} requests of {calls} calls; {report.wrong} calls came to what no test allows")
+    report.sums(f"{requests} requests of {calls} calls; {report.wrong} calls came to what no test allows")
 
 
 def by_rt_try(first, last, crate, report):
@@ -136,6 +136,7 @@ def by_rt_try(first, last, crate, report):
             word = last_word(text, test)
             report.judges(not (word in (ANSWERED, "Other") and test not in after), f"request {number}, {test}: {word}")
             after |= {test} if word == CALLED else set()
+    report.sums(f"requests {first} to {last}: {report.right} calls came to what tests allow, {report.wrong} to more")
 
 
 def run(given, report):

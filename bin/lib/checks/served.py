@@ -163,5 +163,5 @@ def run(_given, report):
         desks.new_book(book, desks.KEYS, CENTS)
         for look in (order_sent_twice, refused_peers, most_connections, ports, slow_reader):
             look(book, report)
-    report.finds(f"one order sent twice, peers that are refused or slow, the most connections, ports: {report.right} "
-                 f"things as they must be, {report.wrong} not")
+    report.sums(f"one order sent twice, peers that are refused or slow, the most connections, ports: {report.right} "
+                f"things as they must be, {report.wrong} not")

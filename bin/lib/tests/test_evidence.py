@@ -30,6 +30,15 @@ class Reports(unittest.TestCase):
         self.assertEqual(self.report.found, ["a sum\n  must be: 4\n  is:      5"])
         self.assertEqual(self.shown, self.report.found)
 
+    def test_the_sum_is_the_last_of_what_is_found(self):
+        self.assertFalse(self.report.is_summed())
+        self.report.finds("a")
+        self.report.sums("a")
+        self.assertTrue(self.report.is_summed())
+        self.assertEqual((self.report.found, self.shown), (["a", "a"], ["a", "a"]))
+        self.report.keeps("a")
+        self.assertFalse(self.report.is_summed())
+
     def test_a_thing_is_told_and_kept_where_it_is_not_well(self):
         self.report.judges(True, "a")
         self.report.judges(False, "b")

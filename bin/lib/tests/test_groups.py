@@ -2,12 +2,14 @@
 import contextlib
 import importlib.machinery
 import importlib.util
+import inspect
 import io
 import unittest
 from unittest import mock
 
 import kit
 from lib import desks
+from lib.report import Report
 
 LOADER = importlib.machinery.SourceFileLoader("checks_script", f"{kit.TOP}/bin/checks")
 checks = importlib.util.module_from_spec(importlib.util.spec_from_loader(LOADER.name, LOADER))
@@ -15,6 +17,48 @@ LOADER.exec_module(checks)
 # what a run of all of them must have, beside what the gate has
 ALL = ("handbooks", "migrations", "creations", "hostile-files", "refusals", "kills", "copies", "install", "openapi",
        "clients", "proxy")
+
+
+class Sums(unittest.TestCase):
+    """The result of a check, in the table of evidence, is its last line."""
+
+    def found_by(self, run):
+        """Returns how a check ends that runs so, and what it finds."""
+        check = mock.Mock(run=run, __doc__="A check.")
+        with mock.patch.object(checks, "check_of", return_value=check), \
+                mock.patch.object(checks, "missing", return_value=[]), \
+                mock.patch.object(checks, "Report", self.report), \
+                mock.patch.object(checks, "is_written", return_value=False):
+            is_well = checks.run_check(["kills"], mock.Mock())
+        return is_well, self.shown
+
+    def report(self):
+        self.shown = []
+        return Report(lambda line, **_: self.shown.append(line))
+
+    def test_a_check_ends_with_its_sum(self):
+        self.assertEqual(self.found_by(lambda _, report: report.sums("3 kills"))[0], True)
+
+        def goes_on(_given, report):
+            report.sums("3 kills")
+            report.finds("seed 4")
+
+        for run in (goes_on, lambda _, report: report.finds("3 kills"), lambda *_: None):
+            is_well, shown = self.found_by(run)
+            told = "could not go on: its last line is not the sum of what it found"
+            self.assertEqual((is_well, shown[-1]), (False, told))
+
+    def test_what_ends_a_check_is_its_sum(self):
+        def breaks(_given, report):
+            report.finds("seed 4")
+            raise desks.Broken("no port")
+
+        self.assertEqual((self.found_by(breaks)[0], self.shown[-1]), (False, "could not go on: no port"))
+
+    def test_each_check_has_a_sum(self):
+        without = [it for it in checks.NAMES if "report.sums(" not in inspect.getsource(checks.check_of(it))
+                   and "kills.sums(" not in inspect.getsource(checks.check_of(it))]
+        self.assertEqual(without, [])
 
 
 class Groups(unittest.TestCase):

@@ -1,4 +1,5 @@
 """What the checks of power cuts and of faulty disks share, with a program of a few lines in the place of the desk."""
+import contextlib
 import errno
 import os
 import shutil
@@ -10,7 +11,9 @@ import unittest
 from unittest import mock
 
 from lib import crash_images, crashes, desks, lives, runs, unsynced, watched
+from lib.checks import power_cuts
 from lib.crash_images import Chance, History, Kept
+from lib.report import Report
 from lib.watched import CUT, FOLDER, MADE, SAID, SYNC, WRITE, Event
 
 BOOK, LOG = lives.BOOK, lives.LOG
@@ -242,6 +245,24 @@ class Crashes(unittest.TestCase):
         found = list(unsynced.alone(0, self.lives[0]))
         self.assertEqual([(it.what, it.events) for it in found], [(unsynced.PAGES, (1,)), (unsynced.PAGES, (4,))])
         self.assertTrue(all(map(unsynced.shown, found)))
+
+    def test_the_syncs_that_are_found_and_those_that_were_left_out_are_counted(self):
+        with mock.patch.object(crashes, "pool") as pool:
+            pool.return_value.__enter__.return_value.map = map
+            found, tried = unsynced.leave_out("1", Report(lambda *_, **__: None))
+        self.assertEqual((found, tried), (5, 5))
+
+    def test_the_sum_of_all_disks_is_found_last(self):
+        report, given = Report(lambda *_, **__: None), mock.Mock(seed="1", tried=40)
+        with contextlib.ExitStack() as stack:
+            for what, name, other in ((power_cuts, "SCENARIOS", ()), (power_cuts, "Lives", mock.MagicMock()),
+                                      (crashes, "pool", mock.MagicMock()), (unsynced, "leave_out", lambda *_: (3, 4)),
+                                      (crashes, "cut_everywhere", lambda *_: crashes.Found())):
+                stack.enter_context(mock.patch.object(what, name, other))
+            power_cuts.run(given, report)
+        told = (f"40 disks, of which 0 hold another book; 3 of 4 syncs that were left out are found; {report.right} "
+                f"things as they must be, {report.wrong} not")
+        self.assertEqual((report.is_summed(), report.found[-1]), (True, told))
 
     def test_all_syncs_of_a_run_are_left_out(self):
         found = list(unsynced.in_whole_runs(0, self.lives[0]))

@@ -123,6 +123,17 @@ class RandomDays(unittest.TestCase):
         random_days.judge("days", collections.Counter({"a": 1}), ("a", "b"), report)
         self.assertEqual((report.right, report.wrong), (1, 1))
 
+    def test_the_sum_of_all_days_is_found_last(self):
+        report, given = Report(lambda *_, **__: None), mock.Mock(seed=1, orders=5, days=2)
+        met = dict.fromkeys(random_days.MET + random_days.MET_IN_SHORT_DAYS, 1)
+        counts = collections.Counter({"commands": 7, **met})
+        with mock.patch.object(random_days, "played", return_value=counts), \
+                mock.patch.object(random_days, "short_days", return_value=counts):
+            random_days.run(given, report)
+        self.assertTrue(report.is_summed())
+        told = "a day of 5 orders and 2 short days, 14 commands over two books"
+        self.assertEqual(report.found[-1], f"{told}: {report.right} things as they must be, 0 not")
+
     def test_a_difference_is_found_with_its_terms(self):
         report = Report(lambda *_, **__: None)
 
