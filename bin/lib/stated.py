@@ -8,6 +8,7 @@ import functools
 import re
 
 import kit
+from lib import unproved
 
 CRATES = f"{kit.TOP}/crates"
 WORDS = "no one two three four five six seven eight nine ten eleven twelve".split()
@@ -316,6 +317,12 @@ def explanations():
         head, *parts = re.sub(r"\n {6}", " ", said).replace('\\"', '"').split("\n")
         found.append((head, *(re.sub(r"^  (?:means|comes from|do): ", "", it) for it in parts)))
     return found
+
+
+def version():
+    """Returns what `--version` says: the program's version, that of its tables, and the kit. No other place makes it."""
+    text = content(f"{CRATES}/{unproved.CRATE}/{unproved.VERSION}")
+    return re.search(r'^ +"([\d.]+), tables (\d+), ([^",]+), commit ', text, re.M).groups()
 
 
 def refusals():

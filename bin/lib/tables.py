@@ -1,4 +1,5 @@
-"""The tables that documents take from the code. Each stands between two lines of comments, which name it."""
+"""What documents take from the code: tables, each of which stands between two lines of comments, which name it; and the
+version of the program that is being made, which the program itself says (`--version`)."""
 import glob
 import importlib.machinery
 import importlib.util
@@ -45,11 +46,23 @@ def sizes():
 
 # which documents have which tables, and what makes each
 TABLES = {"docs/OPERATORS.md": {"refusals": refusals}, "docs/AUDITORS.md": {"sizes": sizes}}
+# Which documents say the version, and how: the form of that line, of which the first part stays. A version that was
+# released has its commit in its heading, and stays whole.
+NEWEST = r"(\A(?:(?!## ).*\n)*## )"
+VERSIONS = {
+    "CHANGELOG.md": (rf"{NEWEST}[\d.]+, tables version \d+$", "{0}, tables version {1}"),
+    "docs/CALLERS.md": (rf"{NEWEST}[\d.]+$", "{0}"),
+    "docs/openapi.yaml": (r"(^  version: )\S.*$", "{0}"),
+    "docs/OPERATORS.md": (r"(^    desk )\d.*$", "{0}, tables {1}"),
+}
 
 
 def written(name, text):
-    """Returns the text of a document with its tables, as they are to be."""
-    for table, made in TABLES[name].items():
+    """Returns the text of a document with its tables and its version, as they are to be."""
+    if name in VERSIONS:
+        form, said = VERSIONS[name]
+        text = re.sub(form, lambda found: found[1] + said.format(*stated.version()), text, count=1, flags=re.M)
+    for table, made in TABLES.get(name, {}).items():
         begin, end = BEGIN.format(table), END.format(table)
         place = re.compile(f"{re.escape(begin)}\n.*?{re.escape(end)}", re.S)
         if len(place.findall(text)) != 1:
@@ -59,9 +72,9 @@ def written(name, text):
 
 
 def differing():
-    """Returns for each document whose tables differ what it must be."""
+    """Returns for each document whose tables or version differ what it must be."""
     found = {}
-    for name in TABLES:
+    for name in {**TABLES, **VERSIONS}:
         there = stated.content(f"{kit.TOP}/{name}")
         wanted = written(name, there)
         if wanted != there:

@@ -23,7 +23,7 @@ import re
 
 import kit
 from lib import contracts as listing
-from lib import columns, evidence, findings, stated, tables, unproved, words
+from lib import columns, evidence, findings, stated, tables, words
 from lib.checks import asserted
 
 NEEDS_THE_PROGRAM = False
@@ -33,6 +33,7 @@ DECISIONS, GUARANTEES, COSTS = "docs/DECISIONS.md", "docs/GUARANTEES.md", "docs/
 AUDIT = "docs/audit.sql"
 SPECIFICATION, OPERATORS = "docs/SPECIFICATION.md", "docs/OPERATORS.md"
 AUDITORS, OPENAPI, MAN_PAGE = "docs/AUDITORS.md", "docs/openapi.yaml", "docs/desk.1.in"
+CALLERS = "docs/CALLERS.md"
 FORM = ["Chosen", "Because", "Instead of", "Price"]
 PROMISE = re.compile(r"((?:^///[^\n]*\n)+)// To judge it, read (?:[^\n]*\n)(?:// [^\n]*\n)*^pub fn (\w+)", re.M)
 # what stands for a name, or is made by a run
@@ -359,17 +360,14 @@ def columns_as_shown(text, sees):
             sees(f"{SPECIFICATION}, columns of: {line}", columns.fits(line, ranges[kind]), True)
 
 
-# what `--version` says: the program's version, that of its tables, and the kit
-VERSION = re.compile(r'^ +"([\d.]+), tables (\d+), ([^",]+), commit ', re.M)
-
-
 def versions(sees):
     """Each document that names the program's version, or its kit, names what the program itself says."""
-    program, tables_are, kit_is = VERSION.search(read(f"crates/{unproved.CRATE}/{unproved.VERSION}")).groups()
+    program, tables_are, kit_is = stated.version()
     sees("the version of the tables that the program tells", tables_are, str(stated.constants()["version"]))
     newest = re.search(r"^## (.*)$", read("CHANGELOG.md"), re.M)
     newest = newest[1].partition(", commit ")[0]
     sees("the newest version in CHANGELOG.md", newest, f"{program}, tables version {tables_are}")
+    sees(f"the newest version in {CALLERS}", re.search(r"^## (.*)$", read(CALLERS), re.M)[1], program)
     sees(f"versions in {OPENAPI}", re.findall(r"^  version: (.*)$", read(OPENAPI), re.M), [program])
     shown = re.findall(r"^    desk (\d.*)$", read(OPERATORS), re.M)
     sees(f"versions that {OPERATORS} shows", shown, [f"{program}, tables {tables_are}"])
@@ -384,7 +382,7 @@ def made_tables(sees):
     """The program explains each refusal, in the order of their numbers; and the tables of documents are those made."""
     heads = [f"{number:02} {of[0]}" for number, of in sorted(stated.refusals().items())]
     sees("refusals that the program explains", [it[0] for it in stated.explanations()], heads)
-    sees("documents with other tables than bin/tables writes", sorted(tables.differing()), [])
+    sees("documents that differ from what bin/tables writes", sorted(tables.differing()), [])
 
 
 # a step of the day in OPERATORS.md: its number, its cell with a command, and the one with what else may come

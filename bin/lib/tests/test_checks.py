@@ -202,6 +202,7 @@ class Documents(unittest.TestCase):
     def test_the_version_is_what_the_program_tells(self):
         self.assertEqual(self.found(documents.versions), [])
         for name, old, what in (("CHANGELOG.md", r"(?m)^## \d", "the newest version in CHANGELOG.md"),
+                                ("docs/CALLERS.md", r"(?m)^## \d", "the newest version in docs/CALLERS.md"),
                                 ("docs/openapi.yaml", r"(?m)^  version: \d", "versions in docs/openapi.yaml"),
                                 ("docs/OPERATORS.md", r"(?m)^    desk \d", "versions that docs/OPERATORS.md shows"),
                                 ("docs/desk.1.in", "@VERSION@", "the version of docs/desk.1.in"),

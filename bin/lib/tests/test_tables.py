@@ -22,6 +22,23 @@ class Tables(unittest.TestCase):
         for text in ("", f"{BEGIN}\n", f"{BEGIN}\n{END}\n{BEGIN}\n{END}\n"):
             self.assertRaises(ValueError, self.written, text)
 
+    def test_the_version_is_written_where_documents_say_it(self):
+        olders = "\n\n## 0.12.0, tables version 3\n"
+        with mock.patch.object(stated, "version", return_value=("1.4.0", "7", "a kit")):
+            for name, old, new in (
+                    ("CHANGELOG.md", f"# A\n\n## 0.13.0, tables version 3{olders}",
+                     f"# A\n\n## 1.4.0, tables version 7{olders}"),
+                    ("docs/CALLERS.md", "# A\n\n## 0.13.0\n\n## 0.12.0\n", "# A\n\n## 1.4.0\n\n## 0.12.0\n"),
+                    ("docs/openapi.yaml", "info:\n  version: 0.13.0\n", "info:\n  version: 1.4.0\n")):
+                self.assertEqual(tables.written(name, old), new)
+            with mock.patch.object(tables, "TABLES", {}):
+                shown = "    $ desk --version | cut -d , -f 1,2\n    desk {}, tables {}\n"
+                written = tables.written("docs/OPERATORS.md", shown.format("0.13.0", 3))
+                self.assertEqual(written, shown.format("1.4.0", 7))
+                self.assertEqual(sorted(tables.differing()), sorted(tables.VERSIONS))
+            released = f"# A\n\n## 0.13.0, tables version 3, commit a1{olders}"
+            self.assertEqual(tables.written("CHANGELOG.md", released), released)
+
     def test_each_refusal_of_a_run_has_a_row(self):
         rows = re.findall(r"^\| (\d\d) ", tables.refusals(), re.M)
         wanted = [it for it, of in sorted(stated.refusals().items()) if of[2] is not None]
