@@ -1,5 +1,8 @@
-"""The columns of a text's lines, as the specification states them, beside the lines that it shows."""
+"""The columns of a text's lines, as the code gives them and the specification states them, beside the lines that it
+shows."""
 import re
+
+import kit
 
 # rows of the tables of columns: a range with what stands there, and in a wider table a second one
 RANGES = re.compile(r"^\| (\d+) to (\d+) \| [^|]*(?:\| (?:(\d+) to (\d+) )?\| [^|]*)?\|$", re.M)
@@ -11,6 +14,37 @@ ENTRIES = re.compile(rf"^    ((?:{KINDS}) +\d{{9}} .*)$", re.M)
 SUMS = re.compile(r"^    ((?:sum-\w+|net) .*)$", re.M)
 PARTICIPANTS = re.compile(r"^    ([A-Z][A-Z0-9]{2,7} .*)$", re.M)
 STATES = re.compile(rf"^    ((?:{KINDS}|settled|marks) +\d+(?: +[\d.]+)?)$", re.M)
+# what makes each kind of line in the code: the file and the function
+CODE = f"{kit.TOP}/crates/rtgs_statements/src"
+FUNCTIONS = {
+    "entries": ("row.rt", "columns"), "sums": ("line.rt", "sum_columns"),
+    "participants": ("line.rt", "account_columns"), "states": ("line.rt", "value_columns"),
+}
+FIELD = r"\{\w+:[<>0](\d+)\}"
+
+
+def of_code():
+    """Returns the ranges of columns that the formats of the code give each kind of line."""
+    return {kind: ranges(widths_of(*place)) for kind, place in FUNCTIONS.items()}
+
+
+def widths_of(name, function):
+    """Returns the widths of the fields that a function of the code writes, with one blank between two."""
+    with open(f"{CODE}/{name}", encoding="utf-8") as it:
+        body = re.search(rf"^fn {function}\(.*?^}}", it.read(), re.M | re.S)[0]
+    formats = "".join(re.findall(r'"([^"\\]*)(?:\\n)?"', body))
+    if not re.fullmatch(rf"{FIELD}(?: {FIELD})*", formats):
+        raise ValueError(f"{function} of {name} writes no columns: {formats}")
+    return [int(it) for it in re.findall(FIELD, formats)]
+
+
+def ranges(widths):
+    """Returns the first and the last column of fields of these widths, with one blank between two."""
+    found, first = [], 1
+    for width in widths:
+        found.append((first, first + width - 1))
+        first += width + 1
+    return found
 
 
 def stated(text):

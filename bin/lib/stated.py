@@ -1,14 +1,14 @@
 """The numbers that documents state, beside what they stand for.
 
-A text has a name in braces where a document has a number: of a constant of the code, or of a count of what stands in
-the code. `{total:p}` is the power of ten, `{tables:w}` the word, `{lingered:K}` the number of KiB. Other numbers are
-asserted by a script or a test, which is named.
+A text has a name in braces where a document has a number: of a constant of the code, of a count of what stands in the
+code, or of what stands in a line of the code, of a test, or of a session that bin/checks handbooks runs. `{total:p}` is
+the power of ten, `{tables:w}` the word, `{lingered:K}` the number of KiB.
 """
 import functools
 import re
 
 import kit
-from lib import unproved
+from lib import columns, unproved
 
 CRATES = f"{kit.TOP}/crates"
 WORDS = "no one two three four five six seven eight nine ten eleven twelve".split()
@@ -62,6 +62,26 @@ CONSTANTS = {
     "failed": ("rtgs_refusals/src/exit_status.rt", "FAILED"),
     "gate": ("../bin/gate-times", "LIMIT"),
 }
+# numbers that are no constant: in which file each stands, and what stands around it
+BANKS, HANDBOOKS, STYLE = "docs/BANKS.md", "bin/lib/checks/handbooks.py", "bin/lib/tests/test_scripts.py"
+LINES = {
+    "summed_bits": ("crates/rtgs_soundness/src/soundness.rt", r"^pub fn balances\(.*BTreeMap<Code, i(\d+)>"),
+    "resolved_bits": ("crates/rtgs_gridlock/src/fundings.rt", r"^    funds: u(\d+),$"),
+    "stored_bits": ("crates/rtgs_money/src/cents.rt", r"^pub struct Cents\(i(\d+)\);$"),
+    "shown_bits": ("crates/rtgs_http_bodies/src/desks/account.rt", r"^fn in_64_bits\(cents: i128\) -> i(\d+)$"),
+    "levels": ("crates/rtgs_http_trials/src/tests/bodies.rt", r"^    let most = nested\(rt.alloc\(\), (\d+)\)\?;$"),
+    "smallest_page": ("bin/lib/hostile.py", r"^SIZES = \[(\d+), "),
+    "largest_page": ("bin/lib/hostile.py", r"^SIZES = \[.*, (\d+)\]$"),
+    "columns": (STYLE, r"if len\(it\) > (\d+)\]"),
+    "more_lines": (STYLE, r"it\.end_lineno - it\.lineno >= (\d+)\]"),
+    "ring": ("README.md", r"'reference,to,amount\\nA-1,BETA,(\d+)\\n'"),
+    "quiet_build": ("docs/COSTS.md", r"minutes: (\d+) minutes, and \d+ minutes of processor time\."),
+    "busy_build": ("docs/COSTS.md", r"with other work\s+beside its last third, took (\d+)\."),
+    "empty_log": ("docs/OPERATORS.md", r"^    \$ stat -c %s bank\.desk-wal\n    (\d+)$"),
+    "banks_port": (HANDBOOKS, r"desk serve bank\.desk --port (\d+) "),
+    "banks_money": (HANDBOOKS, r"desks\.new_book\(book, keys, (\d+),"),
+    "banks_credit": (BANKS, r'"code":"ALFA","credit":(\d+),'),
+}
 # the texts of the auditors' queries, of which no other number is compared
 QUERIES = [
     "id <> 1 OR version <> {version} OR phase NOT IN ({closed}, {open}, {cut_off})",
@@ -85,6 +105,8 @@ TEXTS = {
     "README.md": [
         "a file of {tables:w} SQLite tables",
         "at most {participants} banks, and {queue} waiting orders a bank",
+        "Three banks owe each other {ring} cents in a ring",
+        "A first build took {quiet_build} minutes on four quiet processors, {busy_build} on partly busy ones",
     ],
     "docs/GUARANTEES.md": [
         "more than {objects} tables, indexes, views and triggers",
@@ -153,14 +175,26 @@ TEXTS = {
         "Then come 1 to {rows} rows, each with",
         "One of the first {rows} rows is not of its form",
         "The file has more than {rows} rows",
+        "at most {levels} levels deep, without a number too large for a 64-bit float",
+        "| {entries[0]} | kind | | {entries[1]} | number, in {number_digits:w} digits | | {entries[2]} | reference |",
+        "| {entries[3]} | the other party, `-` for a posting | | {entries[4]} | amount, right-aligned |",
+        "| {entries[5]} | mark, right-aligned, or `-` if there is none |",
+        "label in columns {sums[0]} and its amount, right-aligned, in columns {sums[1]}.",
+        "| {participants_of[0]} | code | {states[0]} | state | | {participants_of[1]} | posted, right-aligned | "
+        "{states[1]} | number of orders",
+        "| {participants_of[2]} | sent, right-aligned | {states[2]} | value, right-aligned |",
+        "| {participants_of[3]} | received, right-aligned |",
     ],
     "docs/OPERATORS.md": [
+        "After a run that ended by itself it holds no commits ({empty_log} bytes).",
         "A key is {key} characters of 0-9 and a-f.",
         "holds up all others for {request} seconds",
         "This program makes tables of version {version};",
         "An `import` ends with {done} even if rows were refused",
     ],
     "docs/BANKS.md": [
+        "on port {banks_port}, without a proxy.",
+        "ALFA has {banks_money} cents and a credit limit of {banks_credit},",
         "1 to {reference} capital letters, digits and dashes",
         "| the head of a request | {head} bytes, {fields} header fields |",
         "| the body of a request | {body} bytes |",
@@ -170,6 +204,7 @@ TEXTS = {
         "7: {queue} orders of yours are queued or held;",
     ],
     "docs/AUDITORS.md": [
+        "any page size from {smallest_page} to {largest_page};",
         "| the version of these tables | INTEGER, {version} |",
         "null before the first day; {first} to {last} |",
         "| {closed} closed, {open} open, {cut_off} cut off | INTEGER |",
@@ -197,61 +232,22 @@ TEXTS = {
         "A row after {rows} good ones makes the file too long",
         "at most {file} bytes, and the body of a request too,",
         "are errors of the command line (status {misused}).",
+        "Sums have {summed_bits} bits, stored amounts {stored_bits}",
+        "Judging a book and resolving add in {added_bits} bits.",
+        "are kept as signed {stored_bits}-bit cents.",
+        "a sound book's balances and marks fit {balance_bits} bits is proved.",
+        "worth more than 2^{shown_bits_but_one} - 1 cents would be shown as that, since JSON holds {shown_bits} bits",
     ],
     "docs/ARCHITECTURE.md": ["The desk is a stack of {crates} crates."],
-    "CONTRIBUTING.md": ["The gate may take {gate} lane-minutes"],
+    "CONTRIBUTING.md": [
+        "The gate may take {gate} lane-minutes",
+        "Lines fit into {columns} columns. A function has fewer than {lines} lines,",
+    ],
     "CHANGELOG.md": [
         "The limit of {queue} orders of a sender (refusal 7)",
         "The file of a new book has pages of {page} bytes, where it had {large_page}:",
     ],
 }
-# numbers that another script or a test asserts: the file, and what stands there; or else what is to be said of them, of
-# which only their presence is compared
-HANDBOOKS = "bin/lib/checks/handbooks.py"
-ELSEWHERE = {
-    "README.md": {
-        "Three banks owe each other 100 cents in a ring": ("README.md", "amount\\nA-1,BETA,100\\n"),
-        "A first build took 37 minutes on four processors": (
-            "docs/COSTS.md", "other work: 37 minutes, and 89 minutes of processor time."),
-    },
-    "docs/SPECIFICATION.md": {
-        "at most 127 levels deep, without a number too large for a 64-bit float": (
-            "crates/rtgs_http_trials/src/tests/bodies.rt", "values_nest_127_levels_at_most"),
-        **dict.fromkeys((
-            "| 1 to 10 | kind | | 12 to 20 | number, in nine digits | | 22 to 37 | reference |",
-            "| 39 to 46 | the other party, `-` for a posting | | 48 to 67 | amount, right-aligned |",
-            "| 69 to 77 | mark, right-aligned, or `-` if there is none |",
-            "label in columns 1 to 10 and its amount, right-aligned, in columns 12 to 41.",
-            "| 1 to 8 | code | 1 to 10 | state | | 10 to 39 | posted, right-aligned | 12 to 20 | number of orders",
-            "| 41 to 70 | sent, right-aligned | 22 to 51 | value, right-aligned |",
-            "| 72 to 101 | received, right-aligned |",
-        ), "the lines that are shown"),
-    },
-    "docs/OPERATORS.md": {
-        "After a run that ended by itself it holds no commits (41 bytes).": (
-            "docs/OPERATORS.md", "$ stat -c %s bank.desk-wal 41 "),
-    },
-    "CONTRIBUTING.md": {
-        "Lines fit into 120 columns. A function has fewer than 40 lines,": (
-            "bin/lib/tests/test_scripts.py", "test_lines_fit_into_120_columns"),
-    },
-    "docs/BANKS.md": {
-        "on port 8080, without a proxy.": (HANDBOOKS, "desk serve bank.desk --port 8080"),
-        "ALFA has 150 cents and a credit limit of 0,": (HANDBOOKS, "desks.new_book(book, keys, 150,"),
-    },
-    "docs/AUDITORS.md": {
-        "any page size from 512 to 65536;": (
-            "bin/lib/hostile.py", "SIZES = [512, 1024, 2048, 4096, 8192, 16384, 32768, 65536]"),
-    },
-    "docs/DECISIONS.md": {
-        "Sums have 128 bits, stored amounts 64": "rt check, by the types of the code",
-        "add in 128 bits. Balances and the values of marks are kept as signed 64-bit cents.": "rt check, as above",
-        "balances and marks fit 64 bits is proved.": "rtgs_book, the law balances_are_small",
-        "worth more than 2^63 - 1 cents would be shown as that, since JSON holds 64 bits": "the law queued_values_fit",
-    },
-}
-
-
 class Number(int):
     """A number, as documents write it: in digits, or as its format asks."""
 
@@ -283,16 +279,54 @@ def constant(path, name):
     return Number(found[1].replace("_", ""))
 
 
+def in_line(path, form):
+    """Returns the number that stands in the one place of a file that has this form."""
+    found = re.findall(form, content(f"{kit.TOP}/{path}"), re.M)
+    if len(found) != 1:
+        raise ValueError(f"{len(found)} places in {path} have the form {form}")
+    return Number(found[0])
+
+
+def of_columns():
+    """Returns the columns of each kind of line, and how many digits a number has there."""
+    kinds = columns.of_code()
+    first, last = kinds["entries"][1]
+    told = {kind: [f"{it} to {end}" for it, end in ranges] for kind, ranges in kinds.items()}
+    told["participants_of"] = told.pop("participants")
+    return {**told, "number_digits": Number(last - first + 1)}
+
+
+def bits_of(number):
+    """Returns how many bits a signed integer of the code has at least that holds this number and its negative."""
+    return Number(next(it for it in (8, 16, 32, 64, 128) if number < 2 ** (it - 1)))
+
+
+def of_lines(found):
+    """Returns the numbers that follow from those of lines."""
+    if found["summed_bits"] != found["resolved_bits"]:
+        raise ValueError("judging and resolving add in different numbers of bits")
+    return {
+        "added_bits": found["summed_bits"],
+        "shown_bits_but_one": Number(found["shown_bits"] - 1),
+        "lines": Number(found["more_lines"] + 1),
+    }
+
+
 @functools.lru_cache(maxsize=None)
 def constants():
-    """Returns each number that a text may name."""
+    """Returns each number that a text may name, and the columns of each kind of line."""
     found = {name: constant(*place) for name, place in CONSTANTS.items()}
+    lines = {name: in_line(*place) for name, place in LINES.items()}
     tables = re.search(r"^known_tables = (.*?)\[\]", content(f"{CRATES}/rtgs_rows/specs/Tables.antt"), re.M | re.S)
     crates = re.findall(r"^\w+:", content(f"{kit.TOP}/crates.txt"), re.M)
     served = re.findall(r"\.range\(1\.\.=(\d+)\)", content(f"{CRATES}/rtgs_cli_arguments/src/serving.rt"))
     largest = found["total"] + (found["participants"] - 1) * found["credit"]
     return {
         **found,
+        **lines,
+        **of_lines(lines),
+        **of_columns(),
+        "balance_bits": bits_of(largest),
         "tables": Number(tables[1].count("∷")),
         "crates": Number(len(crates)),
         "port": Number(served[0]),
@@ -320,7 +354,8 @@ def explanations():
 
 
 def version():
-    """Returns what `--version` says: the program's version, that of its tables, and the kit. No other place makes it."""
+    """Returns what `--version` says: the program's version, that of its tables, and the kit. All others take it from
+    there."""
     text = content(f"{CRATES}/{unproved.CRATE}/{unproved.VERSION}")
     return re.search(r'^ +"([\d.]+), tables (\d+), ([^",]+), commit ', text, re.M).groups()
 

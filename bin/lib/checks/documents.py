@@ -7,9 +7,10 @@ how many files have to be judged; the functions, clauses and types that it names
 `bin/contracts` makes, or else in the code. The documents that name the program's version, or its kit, must name those
 that it tells itself. SPECIFICATION.md must have the refusals as the code has them; what bin/tables writes into other
 documents must be there; and the day in OPERATORS.md has commands and refusals as SPECIFICATION.md lists them. Each
-number must be one of a constant, of a refusal, or of another script or test (bin/lib/stated.py); measures stand in
-COSTS.md alone, in sections that name what measured them. No text has the words that CONTRIBUTING.md lists as not to be
-used, except for those that bin/lib/words_to_do.txt counts.
+number must be that of a refusal or a status, or stand in a text of bin/lib/stated.py with the number that the code has,
+a test, a script, or a session that `bin/checks handbooks` runs: whether the words around it are true is not seen.
+Measures stand in COSTS.md alone, in sections that name what measured them. No text has the words that CONTRIBUTING.md
+lists as not to be used, except for those that bin/lib/words_to_do.txt counts.
 
 Of each file of evidence it says whether it is of the tree that is checked out. README.md and GUARANTEES.md may name a
 file of evidence only if it is, or its lines are what its script makes of the tests of this tree; beside that they name
@@ -268,7 +269,7 @@ OTHER = re.compile("|".join((
     r"```.*?```", r"^    [^\n]*$", r"`[^`]*`", r"\]\([^)]*\)", r"^#+ \d+\.", r"^\d+\. ", r"^\|? ?\*\*Q\d+",
     r"\b\w*[A-Za-z_-]\d[\w.-]*", r"RFC \d+(?:, section [\d.]+)?", r"HTTP/1\.[01]", r"\d{4}-\d\d-\d\d", r"127\.0\.0\.1",
     r"\b0\.\d+\.\d+", r"\b(?:entry|entries|steps?|[Rr]ules?) \d+(?:(?:,| and| to) \d+)*",
-    r"\bversions? \d(?:(?:,| and| or) \d)*", r"Soramäki \d{4}", r"2\^\d+", r"\b0-9\b")), re.S | re.M)
+    r"\bversions? \d(?:(?:,| and| or) \d)*", r"Soramäki \d{4}", r"2\^\d+", r"\b0-9\b", "64-bit float")), re.S | re.M)
 UNIT = " (?:more )?(?:" + "|".join((
     "seconds?", "minutes?", "milliseconds", "ms", "µs", "cents?", "bytes", "KiB", "KB", "MB", "GB", "rows?", "orders?",
     "participants", "banks", "characters?", "(?:header )?fields?", "digits?", "tables", "levels", "files", "views",
@@ -294,13 +295,6 @@ def without_stated(name, text, sees):
     for it in map(stated.told, stated.TEXTS.get(name, [])):
         found = [m.span() for m in re.finditer(r"\s+".join(map(re.escape, it.split())), text)]
         sees(f"{name} says: {it}", bool(found), True)
-        text = blanked(text, found)
-    for it, where in stated.ELSEWHERE.get(name, {}).items():
-        found = [m.span() for m in re.finditer(r"\s+".join(map(re.escape, it.split())), text)]
-        sees(f"{name} says: {it} ({where})", bool(found), True)
-        # (what asserts it: a file, and what stands there)
-        if not isinstance(where, str):
-            sees(f"{where[0]} asserts what {name} says: {it}", where[1] in folded(read(where[0])), True)
         text = blanked(text, found)
     return text
 

@@ -6,7 +6,7 @@ import threading
 import unittest
 from unittest import mock
 
-from lib import desks, findings, hostile, runs, stated
+from lib import columns, desks, findings, hostile, runs, stated
 from lib.checks import copies, documents, edges, handbooks, hostile_files, kills, migrations, plants, refusals
 from lib.report import Report
 
@@ -193,11 +193,42 @@ class Documents(unittest.TestCase):
             self.assertEqual(text.count(old), 1, old)
             self.assertNotEqual(self.found(documents.columns_as_shown, text.replace(old, new)), [], old)
 
-    def test_what_another_file_asserts_must_stand_there(self):
-        for asserted, wrong in (("values of 7", 0), ("values of 8", 1)):
-            with mock.patch.object(stated, "ELSEWHERE", {"docs/NONE.md": {"at most 7": ("bin/none", asserted)}}):
-                found = self.found(documents.without_stated, "docs/NONE.md", "at most 7", read=lambda _: "values of 7")
-            self.assertEqual(len(found), wrong)
+    def test_the_columns_are_those_of_the_code(self):
+        self.assertEqual(columns.of_code()["sums"], [(1, 10), (12, 41)])
+        self.assertEqual(columns.of_code()["entries"][-1], (69, 77))
+        told = stated.told("{entries[1]}: {number_digits:w}; {participants_of[3]}")
+        self.assertEqual(told, "12 to 20: nine; 72 to 101")
+        with desks.room() as folder, mock.patch.object(columns, "CODE", folder):
+            for made, wanted in (('    write!(line, "{a:<3} {b:09} ")?;\n    writeln!(line, "{c:>4}")\n', [3, 9, 4]),
+                                 ('    format!(in alloc; "{a:<3} {b:>4}\\n")\n', [3, 4])):
+                with open(f"{folder}/a.rt", "w", encoding="utf-8") as it:
+                    it.write(f"fn other() {{\n}}\n\nfn columns(\n    a: u8,\n) {{\n{made}}}\n")
+                self.assertEqual(columns.widths_of("a.rt", "columns"), wanted)
+            self.assertRaises(ValueError, columns.widths_of, "a.rt", "other")
+
+    def test_a_number_stands_in_one_line_of_its_form(self):
+        with mock.patch.object(stated, "content", return_value="let most = 7;\nlet more = 8;\n"):
+            self.assertEqual(stated.in_line("a.rt", r"^let most = (\d+);$"), 7)
+            for form in (r"^let \w+ = (\d+);$", r"^let none = (\d+);$"):
+                self.assertRaises(ValueError, stated.in_line, "a.rt", form)
+
+    def test_what_follows_from_lines_is_compared(self):
+        found = {"summed_bits": 128, "resolved_bits": 128, "shown_bits": 64, "more_lines": 39}
+        self.assertEqual(stated.of_lines(found), {"added_bits": 128, "shown_bits_but_one": 63, "lines": 40})
+        self.assertRaises(ValueError, stated.of_lines, {**found, "resolved_bits": 64})
+        self.assertEqual([stated.bits_of(it) for it in (127, 128, 2 ** 63 - 1, 2 ** 63)], [8, 16, 64, 128])
+
+    def test_a_text_whose_number_is_another_is_found(self):
+        text = documents.read("docs/DECISIONS.md")
+        self.assertEqual(self.found(documents.numbers, "docs/DECISIONS.md", text), [])
+        for name, old, new in (("docs/DECISIONS.md", "resolving add in 128 bits", "resolving add in 64 bits"),
+                               ("docs/SPECIFICATION.md", "| 48 to 67 | amount", "| 48 to 66 | amount"),
+                               ("docs/BANKS.md", "ALFA has 150 cents", "ALFA has 151 cents"),
+                               ("docs/OPERATORS.md", "no commits (41 bytes)", "no commits (42 bytes)"),
+                               ("docs/AUDITORS.md", "from 512 to 65536", "from 1024 to 65536")):
+            text = documents.read(name)
+            self.assertEqual(text.count(old), 1, old)
+            self.assertNotEqual(self.found(documents.numbers, name, text.replace(old, new)), [], old)
 
     def test_the_version_is_what_the_program_tells(self):
         self.assertEqual(self.found(documents.versions), [])
