@@ -19,12 +19,9 @@ impl NotStarted {
     pub(crate) fn of_path(error: &PathError) -> NotStarted
         ensures { result.fault ≡ fault_of_path error.now }
     {
-        let fault = match error {
-            PathError::OutOfMemory => Fault::OutOfMemory,
-            PathError::Io(error) if error.kind() == ErrorKind::OutOfMemory => Fault::OutOfMemory,
-            _ => Fault::StoreFault,
-        };
-        NotStarted { fault }
+        NotStarted {
+            fault: fault_of_path(error),
+        }
     }
 
     /// What this error says as a database is made in them: nothing, if they hold one.
@@ -32,23 +29,24 @@ impl NotStarted {
         ensures made { OnOk result (error ≡ OpenError.Refused) }
         ensures refused { IfErr result (λ unstarted. fault_of_making error ≡ Some unstarted.fault) }
     {
-        let fault = match error {
-            OpenError::Refused => return Ok(()),
-            OpenError::OutOfMemory => Fault::OutOfMemory,
-            OpenError::Io | OpenError::Full => Fault::StoreFault,
-        };
-        Err(NotStarted { fault })
+        match error {
+            OpenError::Refused => Ok(()),
+            OpenError::OutOfMemory => Err(NotStarted {
+                fault: Fault::OutOfMemory,
+            }),
+            OpenError::Io | OpenError::Full => Err(NotStarted {
+                fault: Fault::StoreFault,
+            }),
+        }
     }
 
     /// What this error says as its log is copied into the file.
     pub(crate) fn of_copying(error: StoreError) -> NotStarted
         ensures { result.fault ≡ fault_of_copying error }
     {
-        let fault = match error {
-            StoreError::OutOfMemory => Fault::OutOfMemory,
-            _ => Fault::StoreFault,
-        };
-        NotStarted { fault }
+        NotStarted {
+            fault: fault_of_copying(error),
+        }
     }
 
     /// The fault that it is reported as.
@@ -56,5 +54,29 @@ impl NotStarted {
         ensures { result ≡ self.now.fault }
     {
         self.fault
+    }
+}
+
+// What an error of opening the files says.
+fn fault_of_path(error: &PathError) -> Fault
+    ensures { result ≡ fault_of_path error.now }
+{
+    match error {
+        PathError::OutOfMemory => Fault::OutOfMemory,
+        PathError::Io(error) => match error.kind() {
+            ErrorKind::OutOfMemory => Fault::OutOfMemory,
+            _ => Fault::StoreFault,
+        },
+        PathError::Busy | PathError::HotJournal => Fault::StoreFault,
+    }
+}
+
+// What an error of copying the log says.
+fn fault_of_copying(error: StoreError) -> Fault
+    ensures { result ≡ fault_of_copying error }
+{
+    match error {
+        StoreError::OutOfMemory => Fault::OutOfMemory,
+        _ => Fault::StoreFault,
     }
 }
