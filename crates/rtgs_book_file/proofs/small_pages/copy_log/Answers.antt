@@ -1,4 +1,3 @@
-use Rattle.std.proofs.Common.{inr}
 use Rattle.rtgs_book_file.proofs.small_pages.copy_log.Goals as goal
 
 pub returns-in-Ok-clause-copied : goal.returns-in-Ok-clause-copied
@@ -8,6 +7,3 @@ returns-in-Ok-clause-copied g c = record {
   same = c.checkpoint.ensures.same;
   moved = c.in-Ok.ensures.moved;
 }
-
-pub returns-in-Err-clause-refused : goal.returns-in-Err-clause-refused
-returns-in-Err-clause-refused g c = inr (inr (c.in-Err.error, c.of_copying.ensures))

@@ -12,10 +12,10 @@ returns-in-Ok-clause-made g c = record {
   creates = c.in-Ok.ensures.kept;
 }
 
-pub returns-in-Err-clause-more : goal.returns-in-Err-clause-more
-returns-in-Err-clause-more g c = λ is.
+pub returns-clause-more : goal.returns-clause-more
+returns-clause-more g c = λ is.
     let files = c.in-Some-over.unopened in
-    let left = c.in-Err.field-0.1 in
+    let left = c.in-Err.field-0-1 in
     record {
       files = files;
       left = left;
