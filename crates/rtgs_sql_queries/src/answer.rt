@@ -5,7 +5,7 @@ ghost use Rattle.sqlite.specs.Held.{state};
 ghost use Rattle.sqlite.specs.State.{HasCleanDisk, Shown, Survives};
 ghost use Rattle.sqlite_resolve.specs.Compile.{first};
 
-use sqlite::{Alter, Connection, Error, ErrorCode, Row};
+use sqlite::{Alter, Connection, Error, Row};
 use std::alloc::Global;
 
 /// All rows of a query. They are read one at a time: a connection that gives them all at once keeps memory for as many.
@@ -24,11 +24,12 @@ pub(crate) fn all_rows<S: Alter>(
 {
     let mut all = Vec::new(alloc);
     let mut rows = conn.query(text, &[])?;
-    'rows: for _ in 0..u64::MAX {
+    // No list has as many rows as this loop has turns.
+    'rows: for _row in 0..u64::MAX {
         let Some(row) = rows.next()? else {
             return Ok(all);
         };
         all.push(row.copy()?)?;
     }
-    Err(Error::SqliteFailure(ErrorCode::OutOfMemory))
+    unreachable!()
 }

@@ -26,6 +26,7 @@ rows-init g c =
       refl,
       made.mode,
       survives_query _ _ _ c.requires made.survives,
+      omega arith,
       λ clean. rw c.new-all.ensures.items (begun_query g.S.Store _ c.args.conn.now _ c.requires (made.begun clean)),
     )
 
@@ -34,7 +35,7 @@ returns-in_default-clause-ok g c clean =
     let moved = c.next.follows.holds-at-none in
     let now = c.next.follows.lender-at-none.conn.now in
     let late : HasCleanDisk (state g.S.Store now) = search rules in
-    let was = c.rows.invariant.3 (omega (arith, moved.survives.clean)) in
+    let was = c.rows.invariant.4 (omega (arith, moved.survives.clean)) in
     let shown = (rw (c.in_ok-row.was, c.in_default.is) at (moved.ok late)) c.args.text.now [] c.rows.all.items was.0 in
     let whole = shown_from c.args.text.now (state g.S.Store c.args.conn.now) _ (state g.S.Store now) _ c.requires was.1
     shown in
@@ -45,8 +46,11 @@ returns-in_err-row-clause-err g c clean =
     let moved = c.next.follows.holds-at-none in
     let now = c.next.follows.lender-at-none.conn.now in
     let late : HasCleanDisk (state g.S.Store now) = search rules in
-    let was = c.rows.invariant.3 (omega (arith, moved.survives.clean)) in
+    let was = c.rows.invariant.4 (omega (arith, moved.survives.clean)) in
     let failed = (rw c.in_err-row.was at (moved.err late)) c.args.text.now [] c.rows.all.items was.0 in
     let whole = fails_from c.args.text.now (state g.S.Store c.args.conn.now) _ (state g.S.Store now) _ was.1 c.requires
     c.rows.invariant.2 failed in
     search rules
+
+pub unreachable-requires : goal.unreachable-requires
+unreachable-requires g c = omega (arith, c.rows-test.false, c.rows.invariant.3, c.rows.all.ok.1, c.rows.all.small)

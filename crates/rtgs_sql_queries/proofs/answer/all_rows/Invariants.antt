@@ -1,4 +1,4 @@
-use Rattle.std.proofs.Common.{◌≡◌, false, []}
+use Rattle.std.proofs.Common.{◌≡◌, ◌≤◌, false, [], vec_len}
 use Rattle.sqlite.specs.State.{HasCleanDisk, IsUnchanged, Survives}
 use Rattle.sqlite.specs.Held.{state}
 use Rattle.sqlite.specs.Given.{HasGiven}
@@ -11,4 +11,5 @@ invariant-rows g l =
     (l.rows.conn.ghost_name ≡ l.initial.rows.conn.ghost_name)
     × (l.fn.conn.in_transaction ≡ false → l.rows.conn.now.in_transaction ≡ false)
     × Survives old now (λ _. ⊥)
+    × (l._row ≤ vec_len l.all)
     × (HasCleanDisk now → HasGiven g.S.Store l.text [] l.rows.conn.now l.all.items × IsUnchanged old now)
