@@ -91,7 +91,7 @@ class Clause:
 
 
 class Function:
-    """A function, with its clauses. Where it ends is the place behind its body."""
+    """A function, with its clauses, the place where its body begins, and the one behind it, where it ends."""
 
     START = re.compile(r"^ *((?:(pub(?:\([^)]*\))?) )?(?:final )?fn (\w+))", re.M)
     CLAUSE = re.compile(r"\s*((?:ghost\s+)?(?:requires|ensures)\b\*?)\s*(\w*)\s*\{")
@@ -110,7 +110,7 @@ class Function:
         body = self.BODY.match(code.bare, at)
         if not body:
             raise ValueError(f"{self.name} has neither a clause nor a body: {code.text[at:at + 60]}")
-        self.end = body.end() if body.group(1) == ";" else code.end_of(body.start(1))
+        self.body, self.end = body.start(1), body.end() if body.group(1) == ";" else code.end_of(body.start(1))
 
 
 class Block:

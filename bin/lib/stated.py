@@ -75,8 +75,7 @@ LINES = {
     "columns": (STYLE, r"if len\(it\) > (\d+)\]"),
     "more_lines": (STYLE, r"it\.end_lineno - it\.lineno >= (\d+)\]"),
     "ring": ("README.md", r"'reference,to,amount\\nA-1,BETA,(\d+)\\n'"),
-    "quiet_build": ("docs/COSTS.md", r"minutes: (\d+) minutes, and \d+ minutes of processor time\."),
-    "busy_build": ("docs/COSTS.md", r"with other work\s+beside its last third, took (\d+)\."),
+    "build": ("docs/COSTS.md", r"other work: (\d+) minutes, and \d+ minutes of processor time\."),
     "empty_log": ("docs/OPERATORS.md", r"^    \$ stat -c %s bank\.desk-wal\n    (\d+)$"),
     "banks_port": (HANDBOOKS, r"desk serve bank\.desk --port (\d+) "),
     "banks_money": (HANDBOOKS, r"desks\.new_book\(book, keys, (\d+),"),
@@ -106,7 +105,7 @@ TEXTS = {
         "a file of {tables:w} SQLite tables",
         "at most {participants} banks, and {queue} waiting orders a bank",
         "Three banks owe each other {ring} cents in a ring",
-        "A first build took {quiet_build} minutes on four quiet processors, {busy_build} on partly busy ones",
+        "A first build took {build} minutes on four processors",
     ],
     "docs/GUARANTEES.md": [
         "more than {objects} tables, indexes, views and triggers",

@@ -10,7 +10,9 @@ documents must be there; and the day in OPERATORS.md has commands and refusals a
 number must be that of a refusal or a status, or stand in a text of bin/lib/stated.py with the number that the code has,
 a test, a script, or a session that `bin/checks handbooks` runs: whether the words around it are true is not seen.
 Measures stand in COSTS.md alone, in sections that name what measured them. No text has the words that CONTRIBUTING.md
-lists as not to be used, except for those that bin/lib/words_to_do.txt counts.
+lists as not to be used, except for those that bin/lib/words_to_do.txt counts. And since no contract can say that memory
+was refused, or that a store failed, each place where the code answers so stands right behind its cause
+(bin/lib/causes.py).
 
 Of each file of evidence it says whether it is of the tree that is checked out. README.md and GUARANTEES.md may name a
 file of evidence only if it is, or its lines are what its script makes of the tests of this tree; beside that they name
@@ -24,7 +26,7 @@ import re
 
 import kit
 from lib import contracts as listing
-from lib import columns, evidence, findings, stated, tables, words
+from lib import causes, columns, evidence, findings, stated, tables, words
 from lib.checks import asserted
 
 NEEDS_THE_PROGRAM = False
@@ -415,6 +417,14 @@ def plain_words(sees):
         sees(f"words in {name} that are not used", counts.get(name, 0), allowed.get(name, 0))
 
 
+def answers_with_a_cause(sees):
+    """Each place of the code that answers that memory ran out, or that the store failed, stands behind its cause."""
+    for answer in causes.ANSWERS:
+        many, free = causes.found(answer)
+        sees(f"the code names the answer that {answer.words}", many > 2, True)
+        sees(f"places that answer that {answer.words}, and not for that cause", free, [])
+
+
 def measures(text, sees):
     """Each section of the costs that has a number names what measured it."""
     for part in re.split(r"^## ", text, flags=re.M)[1:]:
@@ -479,5 +489,6 @@ def run(_given, report):
     queries(read(AUDIT), report.sees)
     measures(read(COSTS), report.sees)
     plain_words(report.sees)
+    answers_with_a_cause(report.sees)
     evidence_is_told(report)
     report.sums(f"{report.right} things as they must be, {report.wrong} not")
