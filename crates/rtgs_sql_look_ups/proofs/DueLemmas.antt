@@ -8,6 +8,7 @@ use Rattle.rtgs_book.specs.Books.{is_held}
 use Rattle.rtgs_book.specs.Settle.{today}
 use Rattle.rtgs_book.specs.Soundness.{FitsDue, IsSound}
 use Rattle.rtgs_book.specs.declared.book.Book.{Book}
+use Rattle.rtgs_book.specs.declared.limits.TheConstants.{LARGEST_NUMBER}
 use Rattle.rtgs_book.specs.declared.order.Order.{Order}
 use Rattle.rtgs_book.specs.cores.Nexts.{AreNumberedInOrder}
 use Rattle.rtgs_lists.proofs.Finds.{all_found}
@@ -75,6 +76,15 @@ none_under number [] above = refl
 none_under number (o ∷ os) above =
     passed number o (forwards_of os) (differ o.number number (λ same. let low = above.0 in omega (arith, low, same)))
     ∙ none_under number os above.1
+
+-- so has a number above the greatest
+pub none_under_past : (number : ℕ) (os : List Order) → LARGEST_NUMBER < number
+    → AreNumberedInOrder (λ (it : Order). it.number) os → due_under number (forwards_of os) ≡ None
+none_under_past number [] past numbers = refl
+none_under_past number (o ∷ os) past numbers =
+    passed number o (forwards_of os) (differ o.number number (λ same. let least = numbers.0 in
+    omega (arith, least, past, same)))
+    ∙ none_under_past number os past numbers.2
 
 -- an order's own comes first
 own : (o : Order) (os : List Order) → AllByRecursion (λ (other : Order). o.number < other.number) os

@@ -131,3 +131,12 @@ none_past {A = A} number on n xs le numbers = find_nothing (λ x. on x && nat_lt
       | inl up ↦ absurd (let above = ltb-true n (number x) up in let least = numbers.0 in omega arith)
       | inr down ↦ (and_right_false (on x) _ down, past ys numbers.2)
     ]
+
+-- whatever its date
+pub none_above_last : {A : Type 0} (number : A → ℕ) (n : ℕ) (xs : List A) → LARGEST_NUMBER ≤ n
+    → AreNumberedInOrder number xs → first_above number n xs ≡ None
+none_above_last number n [] le numbers = refl
+none_above_last number n (x ∷ xs) le numbers = elim (cases_Bool (nat_lt n (number x))) [
+  | inl up ↦ absurd (let above = ltb-true n (number x) up in let least = numbers.0 in omega arith)
+  | inr down ↦ rw down (none_above_last number n xs le numbers.2)
+]

@@ -7,6 +7,7 @@ use Rattle.std.specs.List.{AllByRecursion, find}
 use Rattle.std.proofs.lemmas.Bool.{cases_Bool, ltb-true, lt-ltb}
 use Rattle.rtgs_book.specs.Books.{has_due}
 use Rattle.rtgs_book.specs.Soundness.{FitsDue, NeverFall}
+use Rattle.rtgs_book.specs.declared.limits.TheConstants.{LARGEST_NUMBER}
 use Rattle.rtgs_book.specs.declared.order.Order.{Order}
 use Rattle.rtgs_book.specs.cores.Nexts.{AreNumberedInOrder, is_order_after}
 use Rattle.rtgs_lists.proofs.Bools.{and_right_false}
@@ -188,6 +189,20 @@ late_off date n high (x ∷ os) o dates e plain late = elim (cases_Bool (nat_lt 
 ]
 
 -- ---- the first due date above a number
+
+-- none is above the greatest of all numbers
+pub no_due_past : (n : ℕ) (os : List Order) → LARGEST_NUMBER ≤ n → AreInOrder os → first_due_above n os ≡ None
+no_due_past n [] le numbers = refl
+no_due_past n (o ∷ os) le numbers = by o.due (no_due_past n os le numbers.2)
+  where
+    by : (due : Option ℕ) → first_due_above n os ≡ None
+        → first_above (λ (f : Forward). f.number) n (forward_for o.number due ++ forwards_of os) ≡ None
+    by None rest = rest
+    by (Some due) rest = elim (cases_Bool (nat_lt n o.number)) [
+      | inl up ↦ absurd (let above = ltb-true n o.number up in let least = numbers.0 in
+          omega (arith, above, least, le))
+      | inr down ↦ rw down rest
+    ]
 
 -- up to that number no order has one
 pub no_due : (date n high : ℕ) (os : List Order) → AreInOrder os

@@ -143,8 +143,9 @@ pub(crate) fn undated_above<S: Alter>(
     ensures found { HasCleanDisk (state S.Store conn.new) → (book : Book) → HoldsBook S.Store conn.old book
         → IfOk result (λ found. found ≡ option_map without_due (first_order_above number book.orders)) }
 {
+    records_are_listed();
     if number > LARGEST_NUMBER as u64 {
-        return Err(Fault::StoreFault);
+        return Ok(None);
     }
     records_stand_in_order();
     one_table_answers();
@@ -166,8 +167,9 @@ pub(crate) fn forward_above<S: Alter>(
     ensures found { HasCleanDisk (state S.Store conn.new) → (book : Book) → HoldsBook S.Store conn.old book
         → IfOk result (λ found. found ≡ first_due_above number book.orders) }
 {
+    records_are_listed();
     if number > LARGEST_NUMBER as u64 {
-        return Err(Fault::StoreFault);
+        return Ok(None);
     }
     records_stand_in_order();
     one_table_answers();

@@ -31,8 +31,9 @@ fn due_date<S: Alter>(conn: &mut Connection<S>, number: u64) -> Result<Option<Bu
     ensures found { HasCleanDisk (state S.Store conn.new) → (book : Book) → HoldsBook S.Store conn.old book
         → IfOk result (λ due. due ≡ due_under number (forwards_of book.orders)) }
 {
+    records_are_listed();
     if number > LARGEST_NUMBER as u64 {
-        return Err(Fault::StoreFault);
+        return Ok(None);
     }
     records_stand_in_order();
     one_table_answers();

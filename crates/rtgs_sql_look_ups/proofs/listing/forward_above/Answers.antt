@@ -1,4 +1,4 @@
-use Rattle.std.proofs.Common.{[], ◌∷◌, nat_lt, ap, sym, subst}
+use Rattle.std.proofs.Common.{[], ◌∷◌, nat_lt, arith, ap, sym, subst}
 use Rattle.sqlite.specs.Held.{state}
 use Rattle.sqlite.specs.Values.{bound_value}
 use Rattle.rtgs_rows.specs.Dues.{forwards_of}
@@ -11,7 +11,12 @@ use Rattle.rtgs_sql_look_ups.proofs.DueLemmas.{forwards_fit}
 use Rattle.rtgs_sql_look_ups.proofs.FindingTexts.{due_above_asks}
 use Rattle.rtgs_sql_look_ups.proofs.FindingLemmas.{fits_found}
 use Rattle.rtgs_sql_look_ups.proofs.ListingLemmas.{due_above_first}
+use Rattle.rtgs_sql_look_ups.proofs.SkippingLemmas.{no_due_past}
 use Rattle.rtgs_sql_look_ups.proofs.listing.forward_above.Goals as goal
+
+pub returns-then-number-clause-found : goal.returns-then-number-clause-found
+returns-then-number-clause-found g c clean book held = sym (no_due_past c.args.number book.orders
+    (omega (arith, c.if-number.true)) (c.records_are_listed.ensures.orders book held.2.sound))
 
 pub returns-clause-looks : goal.returns-clause-looks
 returns-clause-looks g c = c.first_record.ensures.looks after_tests due_above_asks

@@ -1,4 +1,4 @@
-use Rattle.std.proofs.Common.{[], ◌∷◌, nat_lt, option_map, ap, sym, subst}
+use Rattle.std.proofs.Common.{[], ◌∷◌, nat_lt, option_map, arith, ap, sym, subst}
 use Rattle.sqlite.specs.Held.{state}
 use Rattle.sqlite.specs.Values.{bound_value}
 use Rattle.rtgs_book.specs.declared.order.Order.{Order}
@@ -11,7 +11,13 @@ use Rattle.rtgs_sql_look_ups.proofs.FindingTexts.{order_above_asks}
 use Rattle.rtgs_sql_look_ups.proofs.FindingLemmas.{fits_found}
 use Rattle.rtgs_sql_look_ups.proofs.ListingLemmas.{order_above_first}
 use Rattle.rtgs_sql_look_ups.proofs.DueLemmas.{plain_fits}
+use Rattle.rtgs_sql_look_ups.proofs.SeekingLemmas.{none_above_last}
 use Rattle.rtgs_sql_look_ups.proofs.listing.undated_above.Goals as goal
+
+pub returns-then-number-clause-found : goal.returns-then-number-clause-found
+returns-then-number-clause-found g c clean book held = sym (ap (option_map without_due)
+    (none_above_last (λ (o : Order). o.number) c.args.number book.orders (omega (arith, c.if-number.true))
+    (c.records_are_listed.ensures.orders book held.2.sound)))
 
 pub returns-clause-looks : goal.returns-clause-looks
 returns-clause-looks g c = c.first_record.ensures.looks after_tests order_above_asks

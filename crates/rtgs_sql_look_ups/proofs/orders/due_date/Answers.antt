@@ -1,4 +1,4 @@
-use Rattle.std.proofs.Common.{◌≡◌, ◌==◌, [], ◌∷◌, option_map, ap, sym, subst, ◌∙◌}
+use Rattle.std.proofs.Common.{◌≡◌, ◌==◌, [], ◌∷◌, option_map, arith, ap, sym, subst, ◌∙◌}
 use Rattle.std.specs.List.{find}
 use Rattle.sqlite.specs.Held.{state}
 use Rattle.sqlite.specs.Values.{bound_value}
@@ -7,11 +7,15 @@ use Rattle.rtgs_rows.specs.Fitting.{FitsForward}
 use Rattle.rtgs_rows.specs.TableRecords.{forward_records}
 use Rattle.rtgs_rows.specs.declared.forward.Forward.{Forward}
 use Rattle.rtgs_sql_look_ups.specs.Finding.{under_tests, ShowsFirst}
-use Rattle.rtgs_sql_look_ups.proofs.DueLemmas.{forwards_fit}
+use Rattle.rtgs_sql_look_ups.proofs.DueLemmas.{forwards_fit, none_under_past}
 use Rattle.rtgs_sql_look_ups.proofs.FindingTexts.{due_asks}
 use Rattle.rtgs_sql_look_ups.proofs.FindingLemmas.{fits_found, look_as, look_failed}
 use Rattle.rtgs_sql_look_ups.proofs.ListingLemmas.{forward_first}
 use Rattle.rtgs_sql_look_ups.proofs.orders.due_date.Goals as goal
+
+pub returns-then-number-clause-found : goal.returns-then-number-clause-found
+returns-then-number-clause-found g c clean book held = sym (none_under_past c.args.number book.orders
+    (omega (arith, c.if-number.true)) (c.records_are_listed.ensures.orders book held.2.sound))
 
 pub returns-in-Ok-Some-clause-looks : goal.returns-in-Ok-Some-clause-looks
 returns-in-Ok-Some-clause-looks g c = look_as g.S.Store c.args.conn.now c.first_record-found.new.conn _ _
