@@ -1,7 +1,8 @@
 //! Passing over orders that are not of a date, by leaps: each is twice as long as the last while it passes orders, and
 //! then half as long.
-ghost use Rattle.std.specs.Prelude.{◌<◌, ◌≤◌, IfOk};
+ghost use Rattle.std.specs.Prelude.{◌≡◌, ◌⊎◌, ◌<◌, ◌≤◌, ◌==◌, ◌+◌, ◌-◌, ◌^◌, min, true, false, IfOk};
 ghost use Rattle.rtgs_book.specs.declared.book.Book.{Book};
+ghost use Rattle.rtgs_book.specs.declared.limits.TheConstants.{LARGEST_NUMBER};
 ghost use Rattle.rtgs_rows.specs.Keeping.{HoldsBook};
 ghost use Rattle.rtgs_sql_look_ups.specs.Finding.{IsLook};
 ghost use Rattle.rtgs_sql_look_ups.specs.Skipping.{Between, IsOff, IsPlainOff};
@@ -36,7 +37,13 @@ struct Stride {
 
 impl Stride {
     /// The stride after a leap that landed so. One that was halved to nothing, and passed orders, grows again.
-    fn after(self, landing: Landing) -> Stride {
+    fn after(self, landing: Landing) -> Stride
+        ensures doubles { landing ≡ Landing.Further → self.grows ≡ true
+            → (min (self.length + self.length + 1) (2 ^ 64 - 1) ≤ result.length) × (result.grows ≡ true) }
+        ensures halves { landing ≡ Landing.Short → result.length + result.length ≤ self.length }
+        ensures turns { self.grows ≡ false → (result.length + result.length ≤ self.length)
+            × (result.grows ≡ (self.length == 0)) }
+    {
         match landing {
             Landing::Further if self.grows => Stride {
                 length: self.length.saturating_mul(2).saturating_add(1),
@@ -79,7 +86,10 @@ fn land<S: Alter>(
 }
 
 /// Where a leap from `at` has landed that passed orders up to `to`.
-fn landed(at: u64, to: u64) -> Landing {
+fn landed(at: u64, to: u64) -> Landing
+    ensures further { at < to → to < LARGEST_NUMBER → result ≡ Landing.Further }
+    ensures last { (to ≤ at) ⊎ (LARGEST_NUMBER ≤ to) → result ≡ Landing.Last }
+{
     if at < to && to < LARGEST_NUMBER as u64 {
         Landing::Further
     } else {
