@@ -80,6 +80,7 @@ pub fn write<S: Alter>(conn: &mut Connection<S>, rows: &[RowChange]) -> Result<(
         → IfErr result (λ e. IsBefore e → Rests content (state S.Store conn.new)) }
     ensures early { IfErr result (λ e. IsBefore e → Survives (state S.Store conn.old) (state S.Store conn.new)
         (λ _. ⊥)) }
+    ensures late { IfErr result (λ e. ¬ IsBefore e → AllByRecursion FitsRow rows.now) }
     ensures crash { Survives (state S.Store conn.old) (state S.Store conn.new)
         (HoldsChange (state S.Store conn.old) rows.now) }
 {
