@@ -1,16 +1,30 @@
 //! Files that were released.
 ghost use Rattle.std.specs.Prelude.{◌≡◌};
 
+use crate::closed_files::ClosedFiles;
+use sqlite::{FileFrom, Files, Leftover, Start};
 use std::snapshot::Snapshot;
+
+/// What a store leaves of a book's files. Nothing else can be said to be gone, so no value that has no files can.
+pub(crate) trait StoreFiles: Drop {}
+
+/// The files of a store that was abandoned.
+impl<S: Start> StoreFiles for Files<FileFrom<S>> {}
+
+/// What is left of a store that did not open, if anything is.
+impl<S: Start> StoreFiles for Option<Leftover<FileFrom<S>>> {}
+
+/// The files of a store that was closed.
+impl<S: Start> StoreFiles for ClosedFiles<FileFrom<S>> {}
 
 /// Files that were released, or what was left of them, as contracts see them. Only to drop them makes one. The lock of
 /// a book's file is released for such a value alone, and so after the files.
 #[derive(Drop)]
-pub(crate) struct FilesGone<F: Drop> {
+pub(crate) struct FilesGone<F: StoreFiles> {
     files: Snapshot<F>,
 }
 
-impl<F: Drop> FilesGone<F> {
+impl<F: StoreFiles> FilesGone<F> {
     /// Lets these files go.
     pub(crate) fn of(files: F) -> FilesGone<F>
         ensures { result.files.value ≡ files }

@@ -1,7 +1,7 @@
 //! The lock of a book's file whose store is opened.
 ghost use Rattle.std.specs.Prelude.{◌≡◌};
 
-use crate::files_gone::FilesGone;
+use crate::files_gone::{FilesGone, StoreFiles};
 use crate::locked::Locked;
 use std::snapshot::Snapshot;
 
@@ -20,7 +20,7 @@ impl HeldLock {
     }
 
     /// Lets the lock go, now that the files are gone. Its name, as contracts see it.
-    pub(crate) fn release<F: Drop>(self, _gone: &FilesGone<F>) -> Snapshot<String>
+    pub(crate) fn release<F: StoreFiles>(self, _gone: &FilesGone<F>) -> Snapshot<String>
         ensures { result.value ≡ self.locked.name }
     {
         let HeldLock { locked } = self;
