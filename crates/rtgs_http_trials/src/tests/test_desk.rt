@@ -179,11 +179,21 @@ impl TestDesk {
 
     /// The input is answered by the bytes of the reply that is spelled here, and the status of the reply is theirs.
     pub fn tells(&mut self, input: &str, expected: &str) -> Result<(), Fail> {
+        let mut reader = input.as_bytes();
+        self.tells_from(&mut reader, input, expected)
+    }
+
+    /// The same of an input that comes from this reader.
+    pub fn tells_from<R: Read>(
+        &mut self,
+        reader: &mut R,
+        input: &str,
+        expected: &str,
+    ) -> Result<(), Fail> {
         let alloc = self.alloc;
         let reply = reply_of(alloc, expected)?;
-        let mut reader = input.as_bytes();
         let mut written = Vec::new(alloc);
-        let served = self.serve(&mut reader, &mut written);
+        let served = self.serve(reader, &mut written);
         let (bytes, reply) = (written.as_slice(), reply.as_str());
         if is_reply(alloc, &served, bytes, reply)? {
             return Ok(());

@@ -96,6 +96,14 @@ fn each_of_forty_is_served(rt: HostRuntime) -> Result<(), Fail> {
 }
 
 #[test]
+fn the_first_of_a_million_are_served(rt: HostRuntime) -> Result<(), Fail> {
+    let mut desk = TestDesk::open(rt.alloc())?;
+    let inputs = [Some(GOOD.as_bytes()); 3];
+    let statuses = ["HTTP/1.1 200 OK\r\n"; 3];
+    ensure(serves(rt.alloc(), &mut desk, &inputs, 1_000_000, 0, &statuses))
+}
+
+#[test]
 fn none_is_served_once_the_desk_has_failed(rt: HostRuntime) -> Result<(), Fail> {
     // the order is looked up, and then kept
     let mut desk = TestDesk::troubled(rt.alloc(), 1, Trouble::Lost)?;

@@ -89,6 +89,45 @@ fn a_held_order_enters_its_queue_when_its_day_opens(rt: HostRuntime) -> Result<(
     follows(rt.alloc(), HELD)
 }
 
+// ALFA's order enters its queue on its day, and is rejected as that day closes.
+const REJECTED: &str = r#"
+ALFA POST /orders {"amount":60,"due":"2024-03-05","reference":"A-1","to":"BETA"}
+-> 200 OK {"answer":"held","due":"2024-03-05","number":1}
+
+OPERATOR POST /desk/cutoff {"date":"2024-03-04"}
+-> 200 OK {"answer":"cut off"}
+
+OPERATOR POST /desk/close {"date":"2024-03-04"}
+-> 200 OK {"answer":"closed","rejected":0}
+
+OPERATOR POST /desk/open {"date":"2024-03-05"}
+-> 200 OK {"answer":"opened"}
+
+OPERATOR POST /desk/cutoff {"date":"2024-03-05"}
+-> 200 OK {"answer":"cut off"}
+
+OPERATOR POST /desk/close {"date":"2024-03-05"}
+-> 200 OK {"answer":"closed","rejected":1}
+
+ALFA GET /orders/A-1
+-> 200 OK {"amount":60,"date":"2024-03-05","due":"2024-03-05","number":1,"reference":"A-1","state":"rejected",
+"to":"BETA"}
+
+ALFA GET /statements/2024-03-05
+-> 200 OK text/plain
+statement ALFA 2024-03-05
+rejected   000000001 A-1              BETA                     0.60         -
+sum-posted                           0.00
+sum-sent                             0.00
+sum-recv                             0.00
+net                                  0.00
+"#;
+
+#[test]
+fn a_rejected_order_with_a_due_date_is_read(rt: HostRuntime) -> Result<(), Fail> {
+    follows(rt.alloc(), REJECTED)
+}
+
 // A held order is withdrawn while no day is open, and again; its file comes again too.
 const WITHDRAWN: &str = r#"
 ALFA POST /batches

@@ -1,9 +1,10 @@
 //! No read follows the one that decides a reply, and a read or a write that failed is not tried again.
 use super::super::GOOD;
-use super::super::requests::spelled;
+use super::super::requests::{WrittenRequest, spelled};
 use super::super::test_desk::TestDesk;
 use super::counted_reader::CountedReader;
 use rtgs_http_server::Served;
+use rtgs_tests_desks::ensure;
 use std::alloc::Global;
 use std::io;
 use std::io::{ErrorKind, Read, Write};
@@ -71,10 +72,120 @@ fn is_read_once(alloc: Global, desk: &mut TestDesk, text: &str) -> Result<(), Fa
 #[test]
 fn no_read_follows_what_decides_the_reply(rt: HostRuntime) -> Result<(), Fail> {
     let mut desk = TestDesk::open(rt.alloc())?;
+    let mut count = 0usize;
     for text in INPUTS.trim().split("\n\n") {
         is_read_once(rt.alloc(), &mut desk, text)?;
+        count = count.saturating_add(1);
     }
-    Ok(())
+    ensure(count == 10)
+}
+
+// A good request of each route, in an order in which each has a reply of its own.
+const EACH_ROUTE: &str = r#"
+ALFA POST /orders {"amount":100,"reference":"A-1","to":"BETA"}
+-> 200 OK {"answer":"queued","number":1,"place":1}
+
+ALFA POST /batches
+reference,to,amount
+A-2,BETA,50
+-> 200 OK text/csv
+reference,result,number,detail
+A-2,queued,2,2
+
+ALFA GET /orders/A-1
+-> 200 OK {"amount":100,"date":"2024-03-04","number":1,"reference":"A-1","state":"queued","to":"BETA"}
+
+ALFA POST /orders/A-1/withdraw {}
+-> 200 OK {"answer":"withdrawn","number":1}
+
+ALFA GET /account
+-> 200 OK {"balance":0,"code":"ALFA","credit":0,"date":"2024-03-04","name":"Alfa Bank","phase":"OPEN","queued":1,
+"queued_value":50}
+
+ALFA GET /queue
+-> 200 OK {"orders":[{"amount":50,"number":2,"place":1,"reference":"A-2","to":"BETA"}]}
+
+ALFA GET /statements/2024-03-04
+-> 200 OK text/plain
+statement ALFA 2024-03-04
+withdrawn  000000001 A-1              BETA                     1.00         -
+queued     000000002 A-2              BETA                     0.50         -
+sum-posted                           0.00
+sum-sent                             0.00
+sum-recv                             0.00
+net                                  0.00
+
+OPERATOR POST /desk/post {"cents":50,"code":"ALFA","reference":"P-1"}
+-> 200 OK {"answer":"posted","number":1}
+
+OPERATOR POST /desk/credit {"code":"ALFA","credit":20}
+-> 200 OK {"answer":"credit set"}
+
+OPERATOR POST /desk/resolve {}
+-> 200 OK {"answer":"resolved","count":1,"mark":1,"value":50}
+
+OPERATOR POST /desk/cutoff {"date":"2024-03-04"}
+-> 200 OK {"answer":"cut off"}
+
+OPERATOR POST /desk/close {"date":"2024-03-04"}
+-> 200 OK {"answer":"closed","rejected":0}
+
+OPERATOR POST /desk/open {"date":"2024-03-05"}
+-> 200 OK {"answer":"opened"}
+
+OPERATOR GET /desk/report/2024-03-04
+-> 200 OK text/plain
+report 2024-03-04
+ALFA                               0.50                           0.50                           0.00
+BETA                               0.00                           0.00                           0.50
+GAMA                               0.00                           0.00                           0.00
+settled            1                           0.50
+queued             0                           0.00
+held               0                           0.00
+withdrawn          1                           1.00
+rejected           0                           0.00
+marks              1
+
+OPERATOR GET /desk/accounts
+-> 200 OK {"accounts":[{"balance":0,"code":"ALFA","credit":20,"lacking":0,"name":"Alfa Bank","queued":0,
+"queued_value":0},{"balance":50,"code":"BETA","credit":0,"lacking":0,"name":"Beta Bank","queued":0,"queued_value":0},
+{"balance":0,"code":"GAMA","credit":0,"lacking":0,"name":"Gama Bank","queued":0,"queued_value":0}],
+"date":"2024-03-05","phase":"OPEN"}
+"#;
+
+// The request of a step has its reply from a reader that gives this many bytes a read at most, and fails if it is asked
+// once more than the request needs.
+fn is_answered_unasked(
+    alloc: Global,
+    desk: &mut TestDesk,
+    step: &str,
+    most: usize,
+) -> Result<(), Fail> {
+    let (asked, expected) = step.split_once("\n-> ").ok_or("a step without a reply")?;
+    let input = WrittenRequest::read(asked)?.short_input(alloc)?;
+    let reads = input.len().div_ceil(most.max(1));
+    let mut reader = CountedReader::new(input.as_bytes(), most, reads);
+    desk.tells_from(&mut reader, input.as_str(), expected)?;
+    ensure(reader.made == reads)
+}
+
+// The same of each route in turn. Answers of how many requests this is shown.
+fn each_is_answered_unasked(alloc: Global, most: usize) -> Result<usize, Fail> {
+    let mut desk = TestDesk::open(alloc)?;
+    let mut count = 0usize;
+    for step in EACH_ROUTE.trim().split("\n\n") {
+        is_answered_unasked(alloc, &mut desk, step, most)?;
+        count = count.saturating_add(1);
+    }
+    Ok(count)
+}
+
+// In one piece, in pieces of which the last may have the end of a head or a part of a body, and byte by byte.
+#[test]
+fn nothing_is_read_behind_a_good_request_of_each_route(rt: HostRuntime) -> Result<(), Fail> {
+    ensure(each_is_answered_unasked(rt.alloc(), 4096)? == 15)?;
+    ensure(each_is_answered_unasked(rt.alloc(), 50)? == 15)?;
+    ensure(each_is_answered_unasked(rt.alloc(), 1)? == 15)
 }
 
 // Fails once, after a number of reads of one byte, and goes on.
@@ -148,6 +259,11 @@ impl Write for Halting {
     }
 }
 
+// The reply to the good request.
+const QUEUED: &str =
+    "HTTP/1.1 200 OK\r\nContent-Type: application/json\r\nContent-Length: 40\r\nConnection: close\r\n\r\n\
+     {\"answer\":\"queued\",\"number\":1,\"place\":1}";
+
 // The status of a reply of which a beginning was written.
 fn cut_off(served: &Served) -> Option<u16> {
     match served {
@@ -166,11 +282,12 @@ fn is_not_written_again(alloc: Global, writes: usize, fails: bool) -> Result<(),
         fails,
     };
     let served = desk.serve(&mut reader, &mut writer);
-    let taken = writer.taken.len();
-    if cut_off(&served) == Some(200) && taken == writes.saturating_mul(16) {
+    let taken = writer.taken.as_slice();
+    let wanted = QUEUED.as_bytes().get(..writes.saturating_mul(16));
+    if cut_off(&served) == Some(200) && wanted == Some(taken) {
         return Ok(());
     }
-    let said = format!(in alloc; "after {writes} writes {served:?}, {taken} bytes")?;
+    let said = format!(in alloc; "after {writes} writes {served:?}, {taken:?}")?;
     Err(Fail::from(said))
 }
 

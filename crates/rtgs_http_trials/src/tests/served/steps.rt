@@ -1,6 +1,7 @@
 //! The lengths and the contents that each route of a command refuses, and the dates of a day that ends.
 use super::super::requests::WrittenRequest;
 use super::super::test_desk::{TestDesk, follows};
+use rtgs_tests_desks::ensure;
 use std::alloc::Global;
 use std::test::Fail;
 
@@ -79,6 +80,23 @@ fn contents_of_each_route(rt: HostRuntime) -> Result<(), Fail> {
     each_content_is_answered(rt.alloc(), &mut desk, "[", bad_json)?;
     each_content_is_answered(rt.alloc(), &mut desk, r#"{"amount":1e400}"#, bad_json)?;
     each_content_is_answered(rt.alloc(), &mut desk, "[]", wrong_fields)
+}
+
+// A list that does not end, on the second line of a body.
+#[test]
+fn a_content_of_two_lines_on_each_route(rt: HostRuntime) -> Result<(), Fail> {
+    let bad_json = r#"400 Bad Request {"code":65,"name":"BadJson"}"#;
+    let mut desk = TestDesk::open(rt.alloc())?;
+    let mut count = 0usize;
+    for command in COMMANDS.trim().split("\n\n") {
+        let request = WrittenRequest::read(command)?;
+        if request.target != "/batches" {
+            let input = request.with_rest(rt.alloc(), "Content-Length: 3\r\n\r\n\n[\n")?;
+            desk.tells(input.as_str(), bad_json)?;
+            count = count.saturating_add(1);
+        }
+    }
+    ensure(count == 8)
 }
 
 const DATES: &str = r#"
