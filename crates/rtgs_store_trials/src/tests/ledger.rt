@@ -22,7 +22,7 @@ fn a_participant_is_prepared_and_adopted(rt: HostRuntime) -> Result<(), Fail> {
             ensure((answer.own, change.len()) == (Answer::Added, 1))?;
             ledger.adopt(change);
         }
-        Err(_) => assert!(rt; false, "refused"),
+        Err(_) => return Err(Fail::new("refused")),
     }
     Ok(())
 }

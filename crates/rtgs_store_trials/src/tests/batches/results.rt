@@ -6,8 +6,8 @@ use rtgs_book::{NewOrder, OrderState, Refusal};
 use rtgs_desk::Desk;
 use rtgs_keeper::Keeper;
 use rtgs_order_files::{BatchResult, RowReply, write_results};
+use rtgs_tests_desks::ensure;
 use std::alloc::Global;
-use std::process::Abort;
 use std::test::Fail;
 
 const FIRST: &str = "reference,result,number,detail
@@ -89,16 +89,17 @@ fn has_a_beginning(
 
 // Fails unless each writer that stops before the end, or at it, has a beginning of the text.
 fn writers_have_beginnings(
-    rt: &(impl Abort + AllocGlobal),
+    alloc: Global,
     rows: &[NewOrder],
     batch: &BatchResult,
     whole: &str,
-) {
+) -> Result<(), Fail> {
     for writes in 0..=whole.len().div_ceil(5) {
-        let fails = has_a_beginning(rt.alloc(), rows, batch, whole, (writes, true));
-        let is_full = has_a_beginning(rt.alloc(), rows, batch, whole, (writes, false));
-        assert!(rt; fails && is_full, "after {writes} writes");
+        let fails = has_a_beginning(alloc, rows, batch, whole, (writes, true));
+        let is_full = has_a_beginning(alloc, rows, batch, whole, (writes, false));
+        ensure(fails && is_full)?;
     }
+    Ok(())
 }
 
 #[test]
@@ -107,6 +108,5 @@ fn a_writer_that_fails_has_a_beginning(rt: HostRuntime) -> Result<(), Fail> {
     let mut desk = open_desk(rt.alloc())?;
     let batch = submitted(rt.alloc(), &mut desk, rows.as_slice())?;
     let whole = written(rt.alloc(), rows.as_slice(), &batch)?;
-    writers_have_beginnings(&rt, rows.as_slice(), &batch, whole.as_str());
-    Ok(())
+    writers_have_beginnings(rt.alloc(), rows.as_slice(), &batch, whole.as_str())
 }

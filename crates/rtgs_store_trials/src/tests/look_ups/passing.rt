@@ -4,9 +4,8 @@ use super::super::setting::{MONDAY, TUESDAY, code, date, new_keeper, reference};
 use rtgs_book::{Change, Mark, Order, OrderState, Posting, RowChange, Rows};
 use rtgs_keeper::Keeper;
 use rtgs_money::{Amount, BusinessDate, Cents, PostingAmount, Reference};
-use rtgs_tests_desks::MemoryKeeper;
+use rtgs_tests_desks::{MemoryKeeper, ensure};
 use std::alloc::Global;
-use std::process::Abort;
 use std::test::Fail;
 
 /// The Friday before the week.
@@ -95,67 +94,54 @@ fn nexts<K: Keeper>(keeper: &mut K, day: u32, number: u64) -> Result<[Option<u64
 
 /// After each of these numbers come these on a day.
 fn gives<K: Keeper>(
-    rt: &(impl Abort + AllocGlobal),
     keeper: &mut K,
     day: u32,
     numbers: &[u64],
     wanted: [Option<u64>; 3],
 ) -> Result<(), Fail> {
     for number in numbers {
-        assert_eq!(rt; nexts(keeper, day, *number)?, wanted, "{number}");
+        ensure(nexts(keeper, day, *number)? == wanted)?;
     }
     Ok(())
 }
 
 /// Nothing comes next on a day without records, nor after the last of one that has some.
-fn ends_after<K: Keeper>(
-    rt: &(impl Abort + AllocGlobal),
-    keeper: &mut K,
-    last: u64,
-) -> Result<(), Fail> {
+fn ends_after<K: Keeper>(keeper: &mut K, last: u64) -> Result<(), Fail> {
     let numbers = [0, 1, last, LAST, 1 << 63, (1 << 63) + 1, u64::MAX];
-    gives(rt, keeper, MONDAY, &numbers, [None; 3])?;
-    gives(rt, keeper, TUESDAY, &numbers[2..], [None; 3])
+    gives(keeper, MONDAY, &numbers, [None; 3])?;
+    gives(keeper, TUESDAY, &numbers[2..], [None; 3])
 }
 
 /// Each record of Friday comes after the number before it.
-fn gives_each<K: Keeper>(
-    rt: &(impl Abort + AllocGlobal),
-    keeper: &mut K,
-    earlier: &[u64],
-) -> Result<(), Fail> {
+fn gives_each<K: Keeper>(keeper: &mut K, earlier: &[u64]) -> Result<(), Fail> {
     for number in earlier {
         let before = number.saturating_sub(1);
-        gives(rt, keeper, FRIDAY, &[before], [Some(*number); 3])?;
+        gives(keeper, FRIDAY, &[before], [Some(*number); 3])?;
     }
     Ok(())
 }
 
 /// The one record of Tuesday comes after each number before its own.
-fn gives_the_last<K: Keeper>(
-    rt: &(impl Abort + AllocGlobal),
-    keeper: &mut K,
-    last: u64,
-) -> Result<(), Fail> {
+fn gives_the_last<K: Keeper>(keeper: &mut K, last: u64) -> Result<(), Fail> {
     for number in 0..last {
-        gives(rt, keeper, TUESDAY, &[number], [Some(last); 3])?;
+        gives(keeper, TUESDAY, &[number], [Some(last); 3])?;
     }
     Ok(())
 }
 
 /// A keeper of nothing gives the one record of Tuesday behind this many of Friday.
 fn passes_over<K: Keeper>(
-    rt: &(impl Abort + AllocGlobal),
+    alloc: Global,
     keeper: &mut K,
     earlier: &[u64],
     last: u64,
 ) -> Result<(), Fail> {
-    keep_each(rt.alloc(), keeper, earlier, FRIDAY)?;
-    keep_each(rt.alloc(), keeper, &[last], TUESDAY)?;
-    gives_the_last(rt, keeper, last)?;
-    gives_each(rt, keeper, earlier)?;
-    gives(rt, keeper, FRIDAY, &[last.saturating_sub(1)], [None; 3])?;
-    ends_after(rt, keeper, last)
+    keep_each(alloc, keeper, earlier, FRIDAY)?;
+    keep_each(alloc, keeper, &[last], TUESDAY)?;
+    gives_the_last(keeper, last)?;
+    gives_each(keeper, earlier)?;
+    gives(keeper, FRIDAY, &[last.saturating_sub(1)], [None; 3])?;
+    ends_after(keeper, last)
 }
 
 /// The numbers from 1 to this one.
@@ -168,42 +154,36 @@ fn up_to(alloc: Global, number: u64) -> Result<Vec<u64>, Fail> {
 }
 
 /// Keepers in memory and over tables give the one record of Tuesday behind this many of Friday.
-fn both_pass_over(rt: &(impl Abort + AllocGlobal), earlier: u64) -> Result<(), Fail> {
-    let numbers = up_to(rt.alloc(), earlier)?;
+fn both_pass_over(alloc: Global, earlier: u64) -> Result<(), Fail> {
+    let numbers = up_to(alloc, earlier)?;
     let last = earlier.saturating_add(1);
-    passes_over(
-        rt,
-        &mut MemoryKeeper::new(rt.alloc()),
-        numbers.as_slice(),
-        last,
-    )?;
-    passes_over(rt, &mut new_keeper(rt.alloc())?, numbers.as_slice(), last)
+    let numbers = numbers.as_slice();
+    passes_over(alloc, &mut MemoryKeeper::new(alloc), numbers, last)?;
+    passes_over(alloc, &mut new_keeper(alloc)?, numbers, last)
 }
 
 #[test]
 fn records_of_earlier_days_are_passed_over(rt: HostRuntime) -> Result<(), Fail> {
     for earlier in [0, 1, 2, 3, 7, 8, 9, 20] {
-        both_pass_over(&rt, earlier)?;
+        both_pass_over(rt.alloc(), earlier)?;
     }
     Ok(())
 }
 
 /// A keeper of nothing gives the record of the last number, and nothing after it.
-fn reaches_the_last<K: Keeper>(
-    rt: &(impl Abort + AllocGlobal),
-    keeper: &mut K,
-) -> Result<(), Fail> {
-    keep_each(rt.alloc(), keeper, &[1], FRIDAY)?;
-    keep_each(rt.alloc(), keeper, &[LAST], TUESDAY)?;
-    gives(rt, keeper, TUESDAY, &[0, 1, 2, LAST - 1], [Some(LAST); 3])?;
-    gives(rt, keeper, FRIDAY, &[0], [Some(1); 3])?;
-    ends_after(rt, keeper, LAST)
+fn reaches_the_last<K: Keeper>(alloc: Global, keeper: &mut K) -> Result<(), Fail> {
+    keep_each(alloc, keeper, &[1], FRIDAY)?;
+    keep_each(alloc, keeper, &[LAST], TUESDAY)?;
+    gives(keeper, TUESDAY, &[0, 1, 2, LAST - 1], [Some(LAST); 3])?;
+    gives(keeper, FRIDAY, &[0], [Some(1); 3])?;
+    gives(keeper, MONDAY, &[2, 100_000, LAST - 1], [None; 3])?;
+    ends_after(keeper, LAST)
 }
 
 #[test]
 fn the_last_number_has_nothing_after_it(rt: HostRuntime) -> Result<(), Fail> {
-    reaches_the_last(&rt, &mut MemoryKeeper::new(rt.alloc()))?;
-    reaches_the_last(&rt, &mut new_keeper(rt.alloc())?)
+    reaches_the_last(rt.alloc(), &mut MemoryKeeper::new(rt.alloc()))?;
+    reaches_the_last(rt.alloc(), &mut new_keeper(rt.alloc())?)
 }
 
 /// Two postings from before the first day, and one of Monday.
@@ -217,15 +197,15 @@ fn three_postings(alloc: Global) -> Result<Change, Fail> {
 }
 
 /// A keeper of nothing gives postings from before the first day on none.
-fn keeps_back<K: Keeper>(rt: &(impl Abort + AllocGlobal), keeper: &mut K) -> Result<(), Fail> {
-    keeper.commit(&three_postings(rt.alloc())?)?;
-    gives(rt, keeper, MONDAY, &[0, 1, 2], [Some(3), None, None])?;
-    gives(rt, keeper, FRIDAY, &[0, 1, 2, 3], [None; 3])?;
-    gives(rt, keeper, TUESDAY, &[0, 1, 2, 3], [None; 3])
+fn keeps_back<K: Keeper>(alloc: Global, keeper: &mut K) -> Result<(), Fail> {
+    keeper.commit(&three_postings(alloc)?)?;
+    gives(keeper, MONDAY, &[0, 1, 2], [Some(3), None, None])?;
+    gives(keeper, FRIDAY, &[0, 1, 2, 3], [None; 3])?;
+    gives(keeper, TUESDAY, &[0, 1, 2, 3], [None; 3])
 }
 
 #[test]
 fn a_posting_from_before_the_first_day_is_of_no_day(rt: HostRuntime) -> Result<(), Fail> {
-    keeps_back(&rt, &mut MemoryKeeper::new(rt.alloc()))?;
-    keeps_back(&rt, &mut new_keeper(rt.alloc())?)
+    keeps_back(rt.alloc(), &mut MemoryKeeper::new(rt.alloc()))?;
+    keeps_back(rt.alloc(), &mut new_keeper(rt.alloc())?)
 }
