@@ -1,6 +1,7 @@
 //! Files that are no book, or are in use.
 use super::BEGIN;
-use super::script::{follows, follows_both, follows_each};
+use super::days::OPEN_DAY;
+use super::script::{follows, follows_both, follows_each, write};
 use rtgs_tests_desks::ensure;
 use std::fs::{self, OpenOptions};
 use std::test::Fail;
@@ -134,6 +135,89 @@ fn that_are_in_use(rt: HostRuntime) -> Result<(), Fail> {
     follows(&rt, "in_use", BEGIN)?;
     is_in_use(&rt)?;
     follows(&rt, "in_use", NO_LONGER_IN_USE)
+}
+
+/// A book with spaces around its name, beside one that has the same name without them. Its file of orders has such a
+/// name too, and so has another one beside it.
+const SPACED: &str = "
+$ desk init @
+> initialised
+$ desk init ' @ '
+> initialised
+$ desk add ' @ ' ALFA 'Alfa Bank' 0000000000000000000000000000000a
+> added
+$ desk add ' @ ' BETA 'Beta Bank' 0000000000000000000000000000000b
+> added
+$ desk open ' @ ' 2024-03-04
+> opened
+$ desk post ' @ ' ALFA P-1 150
+> posted 1
+$ orders spaced.csv A-1,BETA,100
+$ desk import ' @ ' ALFA ' spaced.csv '
+! refused 98 NoOrderFile
+status 3
+$ desk post @ ALFA P-1 150
+! refused 01 UnknownParticipant
+status 1
+$ desk post '@ ' ALFA P-1 150
+! refused 93 NotADeskFile
+status 3
+";
+
+const SPACED_ORDERS: &str = "
+$ desk import ' @ ' ALFA ' spaced.csv '
+> reference,result,number,detail
+> A-2,settled,1,1
+$ desk import ' @ ' ALFA spaced.csv
+> reference,result,number,detail
+> A-1,queued,2,1
+";
+
+// A name stands as it is given: spaces at its ends are of it, for a book and for a file of orders.
+#[test]
+fn whose_names_have_outer_spaces(rt: HostRuntime) -> Result<(), Fail> {
+    follows(&rt, "spaced", SPACED)?;
+    write(&rt, " spaced.csv ", b"reference,to,amount\nA-2,BETA,100\n")?;
+    follows(&rt, "spaced", SPACED_ORDERS)?;
+    ensure(fs::metadata(&rt, " spaced ").is_ok())?;
+    ensure(fs::metadata(&rt, "spaced ").is_err())
+}
+
+/// Links to themselves and to nothing, and then to the book and to a file of orders.
+const LINKS: &str = "
+$ link @.loop @.loop
+$ desk post @.loop ALFA P-1 1
+! refused 91 StoreFault
+status 3
+$ desk import @ ALFA @.loop
+! refused 98 NoOrderFile
+status 3
+$ link @.nowhere @.missing
+$ desk post @.nowhere ALFA P-1 1
+! refused 93 NotADeskFile
+status 3
+$ gone @.missing
+$ link @.link @
+$ desk init @.link
+! refused 96 FileExists
+status 3
+$ desk post @.link ALFA P-1 1
+> posted 1
+$ orders @.csv A-1,BETA,1
+$ link @.link.csv @.csv
+$ desk import @.link ALFA @.link.csv
+> reference,result,number,detail
+> A-1,settled,1,1
+$ desk post @ ALFA P-1 1
+> repeated
+$ desk import @ ALFA @.csv
+> reference,result,number,detail
+> A-1,repeated,1,settled
+";
+
+#[test]
+fn that_are_links(rt: HostRuntime) -> Result<(), Fail> {
+    follows_both(&rt, "linked", OPEN_DAY, LINKS)
 }
 
 const NEW: &str = "

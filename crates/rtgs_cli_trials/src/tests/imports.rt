@@ -1,5 +1,5 @@
 //! Files of orders, taken whole or not at all, and sent again.
-use super::script::{follows, follows_both};
+use super::script::{follows, follows_both, write};
 use rtgs_tests_desks::ensure;
 use std::alloc::{AllocError, Global};
 use std::fmt::Write;
@@ -113,6 +113,36 @@ status 1
 #[test]
 fn a_file_has_65536_bytes_at_most(rt: HostRuntime) -> Result<(), Fail> {
     follows_both(&rt, "long", DAY, LONG)
+}
+
+/// The bytes of a file of three orders, of which the first stands at its begin, the second behind 32 KB and the last at
+/// its end: lines without text are between them.
+fn spread(alloc: Global) -> Result<String, Fail> {
+    let mut file = String::from_str(alloc, "reference,to,amount\nA-1,BETA,100\n")?;
+    let gap = "\n".repeat(alloc, 32_768usize.saturating_sub(file.len()))?;
+    file.push_str(gap.as_str())?;
+    file.push_str("A-2,GAMA,50\n")?;
+    // the last order has 12 bytes
+    let gap = "\n".repeat(alloc, 65_524usize.saturating_sub(file.len()))?;
+    file.push_str(gap.as_str())?;
+    file.push_str("A-3,BETA,25\n")?;
+    Ok(file)
+}
+
+const SPREAD: &str = "
+$ desk import @ ALFA spread.csv
+> reference,result,number,detail
+> A-1,settled,1,1
+> A-2,settled,2,2
+> A-3,queued,3,1
+";
+
+#[test]
+fn a_file_of_65536_bytes_is_read_to_its_end(rt: HostRuntime) -> Result<(), Fail> {
+    let file = spread(rt.alloc())?;
+    ensure(file.len() == 65_536)?;
+    write(&rt, "spread.csv", file.as_bytes())?;
+    follows_both(&rt, "spread", DAY, SPREAD)
 }
 
 const ENDLESS: &str = "

@@ -16,7 +16,7 @@
 //! - `$ sql PATH STATEMENT` changes a book's file by SQL, as another program does; `$ log PATH STATEMENT` leaves the
 //!   change in its log.
 //! - `$ large PATH` makes a new book whose file has larger pages than `init` gives it.
-//! - `$ folder PATH` makes a folder.
+//! - `$ folder PATH` makes a folder, and `$ link PATH OTHER` a link to the other file.
 //! - `$ copy PATH OTHER` copies a file to the other, which then has no log. With another word in place of `copy`, the
 //!   copy is made hostile (`files::made`).
 //! - `$ same PATH OTHER` compares two files, byte for byte, and `$ gone PATH` holds that there is none.
@@ -29,6 +29,7 @@ use super::runs::{Outcome, run};
 use std::alloc::{AllocError, Global};
 use std::fmt::Write;
 use std::fs;
+use std::os::unix::fs::symlink;
 use std::test::Fail;
 
 /// Adds the words that spaces part.
@@ -239,6 +240,7 @@ fn prepare(rt: &HostRuntime, kind: &str, path: &str, text: &str) -> Result<(), F
         "gone" => is_gone(rt, path),
         "large" => make_large(rt, path),
         "folder" => Ok(fs::create_dir(rt, path)?),
+        "link" => Ok(symlink(rt, text, path)?),
         _ => remake(rt, kind, path, text),
     }
 }
