@@ -62,7 +62,7 @@ MEMORY = Answer(
     rf"\b(?:AllocError|AllocFailed|OutOfMemory|(?:{'|'.join(FOR_OTHERS)})(?=(?:::<[^>()]*>)?\())\b",
     r"\s*Err\(_\)\s*|(?!.*\bOk\().*(?:::OutOfMemory\b|\.is_memory\(\)).*",
     rf"(?:\blet Ok\([^;]*\belse|\bif \w+(?:\.\w+\(\))* == \w+::OutOfMemory){RETURNS}",
-    {("rtgs_http_bodies", "refusal_of")},
+    {("rtgs_http_bodies", "refusal_of"), ("rtgs_book_file", "created")},
 )
 STORE = Answer(
     "the store failed",
@@ -73,7 +73,8 @@ STORE = Answer(
         ("rtgs_sql_loading", "fault_of"), ("rtgs_sql_look_ups", "fault_of"), ("rtgs_tables", "fault_of"),
         ("rtgs_sql_look_ups", "only_record"), ("rtgs_sql_look_ups", "dated"), ("rtgs_desk", "submit"),
         ("rtgs_desk", "refused"), ("rtgs_book_file", "fault_of"), ("rtgs_book_file", "opening"),
-        ("rtgs_book_file", "vacancy"),
+        ("rtgs_book_file", "vacancy"), ("rtgs_book_file", "unless_made"), ("rtgs_book_file", "fault_of_path"),
+        ("rtgs_book_file", "fault_of_copying"),
     },
 )
 NONE = r"(?!)"

@@ -1,8 +1,7 @@
 """The words that no text uses, as CONTRIBUTING.md lists them, and where they stand all the same.
 
 They are looked for in documents, scripts and what lies beside them as a whole, and in the comments of .rt and .antt
-files: what a program prints stays as it is. A file that has some to be mended is named in words_to_do.txt with their
-number, which may only fall.
+files: what a program prints stays as it is.
 """
 import os
 import re
@@ -10,10 +9,10 @@ import re
 import kit
 from lib import stated
 
-LIST, TO_DO = "CONTRIBUTING.md", "bin/lib/words_to_do.txt"
+LIST = "CONTRIBUTING.md"
 ROW = re.compile(r'^\| ("[^|]*) \| [^|]+ \|$', re.M)
 # what has the words by its office: their check, what stands in for the kit, and what was found earlier
-LEFT_OUT = re.compile(r"bin/lib/(?:words\.py|words_to_do\.txt|tests/test_words\.py|tests/fake_rt\.py)"
+LEFT_OUT = re.compile(r"bin/lib/(?:words\.py|tests/test_words\.py|tests/fake_rt\.py)"
                       r"|kept_books/.*\.txt|evidence/.*\.txt")
 WHOLE = re.compile(r"bin/.*|docs/.*|deploy/.*|\.ci/.*|.*\.md")
 COMMENTS = {".rt": re.compile(r"//[^\n]*"), ".antt": re.compile(r"--[^\n]*")}
@@ -58,17 +57,3 @@ def found():
         if count:
             counts[path] = count
     return counts
-
-
-def to_do():
-    """Returns the files that are still to be mended, with how many words each has."""
-    rows = [it.rsplit(" ", 1) for it in stated.content(f"{kit.TOP}/{TO_DO}").splitlines() if not it.startswith("#")]
-    return {path: int(count) for path, count in rows}
-
-
-def lowered():
-    """Returns the list of the files that are to be mended, with their numbers where these have fallen."""
-    counts = found()
-    head = [it for it in stated.content(f"{kit.TOP}/{TO_DO}").splitlines() if it.startswith("#")]
-    left = {path: min(count, counts.get(path, 0)) for path, count in to_do().items()}
-    return "\n".join([*head, *(f"{path} {count}" for path, count in sorted(left.items()) if count)]) + "\n"

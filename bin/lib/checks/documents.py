@@ -10,9 +10,8 @@ documents must be there; and the day in OPERATORS.md has commands and refusals a
 number must be that of a refusal or a status, or stand in a text of bin/lib/stated.py with the number that the code has,
 a test, a script, or a session that `bin/checks handbooks` runs: whether the words around it are true is not seen.
 Measures stand in COSTS.md alone, in sections that name what measured them. No text has the words that CONTRIBUTING.md
-lists as not to be used, except for those that bin/lib/words_to_do.txt counts. And since no contract can say that memory
-was refused, or that a store failed, each place where the code answers so stands right behind its cause
-(bin/lib/causes.py).
+lists as not to be used. And since no contract can say that memory was refused, or that a store failed, each place where
+the code answers so stands right behind its cause (bin/lib/causes.py).
 
 Of each file of evidence it says whether it is of the tree that is checked out. README.md and GUARANTEES.md may name a
 file of evidence only if it is, or its lines are what its script makes of the tests of this tree; beside that they name
@@ -410,11 +409,9 @@ def day_of_commands(text, specified, sees):
 
 
 def plain_words(sees):
-    """No file has more of the words that are not used than the list of files says, and none fewer (bin/tables)."""
-    counts, allowed = words.found(), words.to_do()
+    """No file has words that are not used."""
     sees("words that are not used", len(words.avoided(read(words.LIST))[0]) > 8, True)
-    for name in sorted({*counts, *allowed}):
-        sees(f"words in {name} that are not used", counts.get(name, 0), allowed.get(name, 0))
+    sees("files that have words that are not used, and how many each", words.found(), {})
 
 
 def answers_with_a_cause(sees):

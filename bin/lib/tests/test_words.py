@@ -1,6 +1,5 @@
-"""The words that are not used: what finds them, and the list of the files that still have some."""
+"""The words that are not used: what finds them."""
 import unittest
-from unittest import mock
 
 import kit
 from lib import stated, words
@@ -30,9 +29,3 @@ class Words(unittest.TestCase):
         self.assertEqual(self.count("crates/a/specs/A.antt", "a = so many\n-- so many\n"), 1)
         self.assertEqual(self.count("crates/a/data/a.csv", "so many"), 0)
         self.assertEqual(self.count(words.LIST, LISTED), 0)
-
-    def test_the_numbers_of_the_list_only_fall(self):
-        with mock.patch.object(words, "found", lambda: {"a": 1, "b": 5, "d": 2}), \
-                mock.patch.object(words, "to_do", lambda: {"a": 2, "b": 3, "c": 1}):
-            left = [it for it in words.lowered().splitlines() if not it.startswith("#")]
-        self.assertEqual(left, ["a 1", "b 3"])

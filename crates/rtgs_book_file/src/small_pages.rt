@@ -53,6 +53,7 @@ fn created<D: Disk + Drop>(alloc: Global, files: Files<D>) -> Result<FileStore<D
     let Some(size) = PageSize::new(SMALL_SIZE) else {
         return Err(OpenError::Io);
     };
+    // (it asks for memory alone, and reads nothing)
     let Some(unopened) = over(alloc, files, size, false) else {
         return Err(OpenError::OutOfMemory);
     };

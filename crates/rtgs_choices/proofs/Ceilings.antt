@@ -35,7 +35,8 @@ not_chosen book choice zeros order =
 none_chosen : (book : Book) (choice : Choice) → ((code : List ℕ) → choice code ≡ 0) → (orders : List Order)
     → filter (is_chosen book choice) orders ≡ []
 none_chosen book choice zeros [] = refl
-none_chosen book choice zeros (o ∷ orders) = by (is_chosen book choice o) (not_chosen book choice zeros o) (none_chosen book choice zeros orders)
+none_chosen book choice zeros (o ∷ orders) = by (is_chosen book choice o) (not_chosen book choice zeros o)
+    (none_chosen book choice zeros orders)
   where
     by : (b : Bool) → b ≡ false → filter (is_chosen book choice) orders ≡ []
         → cond b (o ∷ filter (is_chosen book choice) orders) (filter (is_chosen book choice) orders) ≡ []
@@ -73,5 +74,6 @@ module _ (law : ChosenAreBeginnings) (book : Book) (sound : IsSound book) (limit
       omega (arith, ints, here, ap (λ x. x.balance) at, ap (λ x. x.floor) at)
 
   pub calm_below : IsCalm book
-  calm_below = calm_book law book sound (λ other feasible p less. let most = ceiling.at_most (positions_of book) below_at
+  calm_below = calm_book law book sound (λ other feasible p less. let most = ceiling.at_most
+      (positions_of book) below_at
       other feasible p less in omega (arith, most))

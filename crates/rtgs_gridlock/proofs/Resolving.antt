@@ -13,7 +13,8 @@ use Rattle.rtgs_gridlock.specs.Choices.{IsFeasible, IsGreatest, IsWithin, AreInR
 use Rattle.rtgs_gridlock.specs.Fundings.{funds_of, owed_of, everything, HasEnough, AreFundings}
 use Rattle.rtgs_gridlock.specs.Slack.{AreBelow, IsCeiling, HasSlack, risen}
 use Rattle.rtgs_gridlock.specs.Workspaces.{reserved_participants, participants_of, lengths_of, slacks_of, choice_of}
-use Rattle.rtgs_gridlock.specs.Workspaces.{slack_at, steps_of, steps_left, untested_count, newest, IsUntested, IsFilled, IsTested}
+use Rattle.rtgs_gridlock.specs.Workspaces.{slack_at, steps_of, steps_left, untested_count, newest, IsUntested}
+use Rattle.rtgs_gridlock.specs.Workspaces.{IsFilled, IsTested}
 use Rattle.rtgs_gridlock.specs.Workspaces.{CanTakeBack, IsTakenBack, SameButUntested}
 use Rattle.rtgs_gridlock.specs.Resolving.{IsResolving}
 use Rattle.rtgs_gridlock.specs.Listed.{on_count}
@@ -154,7 +155,8 @@ pub IsResolving-taken : (positions : List Position) (queues : List (List Payment
     (tested back after : Workspace) → IsTesting positions queues tested s → (HasEnough tested.fundings.list s → ⊥)
     → IsTakenBack queues s tested back → SameButUntested back after → IsUntested after s
     → IsUntested after (newest queues (choice_of tested) s).receiver
-    → ((p : ℕ) → IsUntested back p → IsUntested after p) → ((p : ℕ) → IsUntested after p → p < participants_of back) → IsResolving positions queues after
+    → ((p : ℕ) → IsUntested back p → IsUntested after p) → ((p : ℕ) → IsUntested after p → p < participants_of back)
+    → IsResolving positions queues after
 IsResolving-taken positions queues s tested back after is short taken same sender receiver others only = record {
   participants = same.participants ∙ taken.participants ∙ is.participants;
   floored = is.floored;
@@ -225,7 +227,8 @@ IsResolving-taken positions queues s tested back after is short taken same sende
         (λ r d. omega (arith, ints, below r d, less_slack r)) other feasible q c in
         elim (cases_eq p s) [
           | inl at ↦
-              let less = short_has_fewer moved queues other (choice_of tested) s feasible before is.is_one still_short in
+              let less = short_has_fewer moved queues other
+              (choice_of tested) s feasible before is.is_one still_short in
               subst (λ (q : ℕ). other q ≤ choice_of after q) (sym at) (omega (arith, less, fewer))
           | inr ne ↦ omega (arith, unchanged p ne, before p b)
         ]

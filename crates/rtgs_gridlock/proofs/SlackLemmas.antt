@@ -260,14 +260,16 @@ module _ (queues new : List (List Payment)) (sender : ℕ) (payment : Payment) (
           ∙ ap (λ (n : ℕ). sum_by f (take n (queue_of queues p))) (sym (unchanged p b ne))
 
       at_sender : (f : Payment → ℕ)
-          → (sum_by f (take (without sender) (queue_of queues sender)) ≤ sum_by f (take (other sender) (queue_of new sender)))
+          → (sum_by f (take (without sender) (queue_of queues sender))
+          ≤ sum_by f (take (other sender) (queue_of new sender)))
           × (sum_by f (take (other sender) (queue_of new sender))
           ≤ sum_by f (take (without sender) (queue_of queues sender)) + f payment)
       at_sender f =
           subst (λ (xs : List Payment).
           (sum_by f (take (min (other sender) (length (queue_of queues sender))) (queue_of queues sender))
           ≤ sum_by f (take (other sender) xs)) × (sum_by f (take (other sender) xs)
-          ≤ sum_by f (take (min (other sender) (length (queue_of queues sender))) (queue_of queues sender)) + f payment))
+          ≤ sum_by f (take (min (other sender) (length (queue_of queues sender))) (queue_of queues sender))
+          + f payment))
           (sym appended.longer) (cut f (queue_of queues sender) payment (other sender))
 
       sends : (p : ℕ) → p < length queues → sent queues without p ≤ sent new other p
@@ -337,7 +339,8 @@ module _ (queues new : List (List Payment)) (sender : ℕ) (payment : Payment) (
               pays more =
                   let here : sum_by (λ (x : Payment). x.amount) (take (other sender) (queue_of new sender))
                   ≡ sum_by (λ (x : Payment). x.amount) (queue_of queues sender) + payment.amount =
-                  ap (λ (xs : List Payment). sum_by (λ (x : Payment). x.amount) (take (other sender) xs)) appended.longer
+                  ap (λ (xs : List Payment). sum_by (λ (x : Payment). x.amount) (take
+                  (other sender) xs)) appended.longer
                   ∙ ap (sum_by (λ (x : Payment). x.amount)) (take_all (other sender)
                   (queue_of queues sender ++ payment ∷ [])
                   (omega (arith, more, length-append (queue_of queues sender) (payment ∷ []))))
@@ -469,7 +472,8 @@ module _ (queues new : List (List Payment)) (sender : ℕ) (payment : Payment) (
       pays_back : (p : ℕ) → sent queues with_it p ≤ sent new other p + cond (eqb p sender) payment.amount 0
       pays_back p =
           elim (cases_eq p sender) [
-            | inl at ↦ subst (λ (q : ℕ). sent queues with_it q ≤ sent new other q + cond (eqb q sender) payment.amount 0)
+            | inl at ↦ subst (λ (q : ℕ). sent queues with_it q ≤ sent new other q
+                + cond (eqb q sender) payment.amount 0)
                 (sym at) (omega (
                   arith,
                   sent_is queues with_it sender,
@@ -556,7 +560,8 @@ settled_slack positions rest_positions queues rest choice slacks within has sett
     at_most : (moved : List Position) → AreBelow (length rest) moved (risen rest_positions (slice_index slacks))
         → (other : ℕ → ℕ) → IsFeasible moved rest other → (p : ℕ) → p < length rest → other p ≤ 0
     at_most moved below other feasible p c =
-        let most = has.ceiling.at_most (unsettled queues choice moved) below_before (λ s. choice s + other s) (IsFeasible-more (unsettled queues choice moved) moved queues
+        let most = has.ceiling.at_most (unsettled queues choice moved) below_before (λ s. choice s
+        + other s) (IsFeasible-more (unsettled queues choice moved) moved queues
         rest choice other within again feasible) p (omega (arith, c, settled.count)) in
         omega (arith, most)
       where
@@ -564,7 +569,8 @@ settled_slack positions rest_positions queues rest choice slacks within has sett
             ≡ (position_of moved q).balance +ℤ (pos (sent queues choice q) -ℤ pos (received queues choice q))
         balance_is q b = raised-balance (length queues) moved (taken_by queues choice) q b
 
-        floor_is : (q : ℕ) → q < length queues → (position_of (unsettled queues choice moved) q).floor ≡ (position_of moved q).floor
+        floor_is : (q : ℕ) → q < length queues → (position_of (unsettled queues choice moved) q).floor
+            ≡ (position_of moved q).floor
         floor_is q b = raised-floor (length queues) moved (taken_by queues choice) q b
 
         again : IsSettled (unsettled queues choice moved) queues choice moved rest
@@ -603,9 +609,11 @@ idle_ceiling queues idle choice limits higher is none above less = record { at_m
     at_most : (positions : List Position) → AreBelow (length queues) positions higher → (other : ℕ → ℕ)
         → IsFeasible positions queues other → (p : ℕ) → p < length queues → other p ≤ choice p
     at_most positions below other feasible =
-        is.at_most (levelled (length queues) positions idle) below_level other (record { within = feasible.within; covered = covered })
+        is.at_most (levelled (length queues) positions idle) below_level other
+        (record { within = feasible.within; covered = covered })
       where
-        level_floor : (p : ℕ) → p < length queues → (position_of (levelled (length queues) positions idle) p).floor ≡ (position_of positions p).floor
+        level_floor : (p : ℕ) → p < length queues → (position_of (levelled (length queues) positions idle) p).floor
+            ≡ (position_of positions p).floor
         level_floor p b = raised-floor (length queues) positions (down positions idle) p b
 
         level_balance : (p : ℕ) → p < length queues → (p ≡ idle → ⊥)
@@ -615,7 +623,8 @@ idle_ceiling queues idle choice limits higher is none above less = record { at_m
             -ℤ (position_of positions p).balance) (ne_eqb p idle ne) in
             omega (arith, ints, raised-balance (length queues) positions (down positions idle) p b, none_more)
 
-        level_idle : idle < length queues → (position_of (levelled (length queues) positions idle) idle).balance ≡ (position_of positions idle).floor
+        level_idle : idle < length queues → (position_of (levelled (length queues) positions idle) idle).balance
+            ≡ (position_of positions idle).floor
         level_idle b =
             let more = int_cond-true (eqb idle idle) ((position_of positions idle).floor
             -ℤ (position_of positions idle).balance) (eq-eqb idle idle refl) in

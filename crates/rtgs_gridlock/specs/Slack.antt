@@ -25,7 +25,8 @@ risen positions slacks p = headroom_of positions p +ℤ pos (slacks p)
 
 -- each participant has some slack, and while no headroom rises by as much as its slack, no
 -- feasible choice exceeds this one
-pub record HasSlack (positions : List Position) (queues : List (List Payment)) (choice : ℕ → ℕ) (slacks : List ℕ) : Type 0
+pub record HasSlack (positions : List Position) (queues : List (List Payment)) (choice : ℕ → ℕ)
+    (slacks : List ℕ) : Type 0
   where
     pub count : length slacks ≡ length queues
     pub some : (p : ℕ) → p < length queues → 0 < slice_index slacks p
@@ -50,7 +51,8 @@ abbrev pub net_of : List (List Payment) → ℕ → ℤ
 net_of queues p = pos (sent queues (everything queues) p) -ℤ pos (received queues (everything queues) p)
 
 -- a payment more stands at the end of the sender's queue
-pub record IsAppended (queues : List (List Payment)) (sender : ℕ) (payment : Payment) (new : List (List Payment)) : Type 0
+pub record IsAppended (queues : List (List Payment)) (sender : ℕ) (payment : Payment)
+    (new : List (List Payment)) : Type 0
   where
     pub sender_is : sender < length queues
     pub count : length new ≡ length queues
@@ -58,7 +60,8 @@ pub record IsAppended (queues : List (List Payment)) (sender : ℕ) (payment : P
     pub others : (p : ℕ) → (p ≡ sender → ⊥) → queue_of new p ≡ queue_of queues p
 
 -- a payment is gone from the sender's queue, where it stood between these
-pub record IsWithdrawn (queues : List (List Payment)) (sender : ℕ) (payment : Payment) (new : List (List Payment)) : Type 0
+pub record IsWithdrawn (queues : List (List Payment)) (sender : ℕ) (payment : Payment)
+    (new : List (List Payment)) : Type 0
   where
     pub sender_is : sender < length queues
     pub count : length new ≡ length queues

@@ -1,5 +1,6 @@
 //! What each participant may spend and owes by the present choice, and the steps that were counted.
-ghost use Rattle.std.specs.Prelude.{◌≡◌, ℕ, ◌+◌, ◌-◌, ◌*◌, ◌^◌, ◌<◌, ◌≤◌, ◌↔◌, ◌==◌, ◌+ℤ◌, pos, All, IfOk, IsTrue, length};
+ghost use Rattle.std.specs.Prelude.{◌≡◌, ℕ, ◌+◌, ◌-◌, ◌*◌, ◌^◌, ◌<◌, ◌≤◌, ◌↔◌, ◌==◌, ◌+ℤ◌, pos, All, IfOk, IsTrue};
+ghost use Rattle.std.specs.Prelude.{length};
 ghost use Rattle.std.specs.Prelude.{sum_by, if◌then◌else◌};
 ghost use Rattle.rtgs_gridlock.specs.declared.queues.TheConstants.{LARGEST_AMOUNT};
 ghost use Rattle.rtgs_gridlock.specs.Choices.{amount_to, position_of, queue_of, payment_count, received, AreFloored};
@@ -38,7 +39,7 @@ impl Model for Fundings {
 }
 
 impl Fundings {
-    /// Room for so many participants. No step has been taken.
+    /// Room for this many participants. No step has been taken.
     pub fn reserve(alloc: Global, participants: usize) -> Result<Fundings, AllocError>
         ensures room { IfOk result (λ fundings. length fundings.list ≡ participants) }
         ensures fresh { IfOk result (λ fundings. fundings.steps ≡ 0) }

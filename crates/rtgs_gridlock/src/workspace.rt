@@ -31,12 +31,13 @@ pub struct Workspace {
 
 impl Workspace {
     ghost use Rattle.rtgs_gridlock.specs.Workspaces.{reserved_participants, reserved_payments, participants_of};
-    ghost use Rattle.rtgs_gridlock.specs.Workspaces.{lengths_of, choice_of, slacks_of, steps_of, untested_count, newest};
+    ghost use Rattle.rtgs_gridlock.specs.Workspaces.{lengths_of, choice_of, slacks_of, steps_of, untested_count};
+    ghost use Rattle.rtgs_gridlock.specs.Workspaces.{newest};
     ghost use Rattle.rtgs_gridlock.specs.Workspaces.{IsUntested, IsFilled, IsTested, CanTakeBack, IsTakenBack};
     ghost use Rattle.rtgs_gridlock.specs.Workspaces.{SameButUntested, ListsParties};
 
-    /// Room for so many participants. A resolution may then have so many queued payments, which
-    /// need no room of their own.
+    /// Room for this many participants. A resolution may then have this many queued payments, which need no room of their
+    /// own.
     pub fn reserve(
         alloc: Global,
         participants: usize,

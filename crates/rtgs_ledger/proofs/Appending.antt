@@ -145,13 +145,15 @@ module _ (law : AppendedWithinSlack) (core : Core) (o : Order) (rise : CodesRise
 
   at_end : IsAppended (queues_in core) at (payment_in core o) (queues_in more)
   at_end = appended more core o core.waiting [] refl
-      (ap (λ (b : Bool). cond b (core.waiting ++ o ∷ []) core.waiting) waits) (sym (append-nil core.waiting)) rise queued
+      (ap (λ (b : Bool). cond b (core.waiting ++ o ∷ []) core.waiting) waits) (sym
+      (append-nil core.waiting)) rise queued
       inside refl
 
   own_queue : queued_among core.waiting o.sender ≡ [] → queue_of (queues_in core) at ≡ []
   own_queue none =
       queue_at core at inside
-      ∙ ap (queue_with (map code_of core.accounts) core.waiting) (sym (code_at_index (map code_of core.accounts) o.sender
+      ∙ ap (queue_with (map code_of core.accounts) core.waiting) (sym (code_at_index
+      (map code_of core.accounts) o.sender
       (omega (arith, inside, length-map core.accounts code_of))))
       ∙ ap (map (payment_among (map code_of core.accounts))) none
 

@@ -219,6 +219,7 @@ module _ (core : Core) (number : ℕ) (state : OrderState) (o : Order) (numbers 
         let long = length-append (queued_among there.earlier o.sender) (o ∷ queued_among there.later o.sender) in
         let before = nil_from_length (queued_among there.earlier o.sender) (omega (arith, one, ap length own, long)) in
         let behind = nil_from_length (queued_among there.later o.sender) (omega (arith, one, ap length own, long)) in
-        last_falls law (Some sender) (rest_at core left o there.earlier there.later refl there.with_it there.without rise
+        last_falls law (Some sender) (rest_at core left o there.earlier there.later refl there.with_it there.without
+        rise
         queued inside sender inside
         ∙ (λ i. payments there.earlier before i ++ payments there.later behind i)) (payments there.later behind)

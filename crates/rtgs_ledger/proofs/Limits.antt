@@ -142,7 +142,8 @@ row_keeps_queues (AddOrder o) core h =
     queues_same core (core_after_row core (AddOrder o)) refl (λ code. order_queues code core.waiting o h (is_waiting o))
 row_keeps_queues (AddMark m) core h = refl
 row_keeps_queues (SetCredit code credit) core h =
-    queues_same core (core_after_row core (SetCredit code credit)) (map_twice code_of (limited code credit) core.accounts
+    queues_same core (core_after_row core (SetCredit code credit)) (map_twice code_of
+    (limited code credit) core.accounts
     ∙ map_agree (λ a. code_of (limited code credit a)) code_of core.accounts (code_limited code credit)) (λ _. refl)
 row_keeps_queues (SetBalance code b) core h =
     queues_same core (core_after_row core (SetBalance code b)) (map_twice code_of (rebalanced code b) core.accounts
@@ -237,7 +238,8 @@ calm_if_below law rows core l limits kept lowers is below =
     first : IfSome l.begins (λ s. above (core_after core rows) s ≤ℤ pos l.cents)
     first = by l.begins lowers.begins (λ p less. (below p nobody less).1)
       where
-        by : (account : Option ℕ) → IfSome account (λ s. (s < length (queues_in core)) × (queue_of (queues_in core) s ≡ []))
+        by : (account : Option ℕ) → IfSome account (λ s. (s < length (queues_in core)) × (queue_of (queues_in core) s
+            ≡ []))
             → ((p : ℕ) → p < length core.accounts → IfSome account (λ s. s ≡ p
             → headroom_at core.day.phase (account_after rows (get_or core.accounts p nobody)) <ℤ pos l.cents))
             → IfSome account (λ s. above (core_after core rows) s ≤ℤ pos l.cents)

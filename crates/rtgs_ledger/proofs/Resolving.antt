@@ -396,7 +396,8 @@ module _ (book : Book) (core : Core) (is : IsCoreOf book core) (orders : List Or
           ∙ ap (state_rows (Settled mark.number)) (sym (numbers book g.choice is.sound))
 
       leads : Leads book rows new
-      leads = subst (λ changes. Leads book changes new) (λ i. sym states_are_taken i ++ AddMark mark ∷ sym balances_are i)
+      leads = subst (λ changes. Leads book changes new) (λ i. sym states_are_taken i
+          ++ AddMark mark ∷ sym balances_are i)
           (leading book g.choice mark is.sound any is_mark)
 
       pub settlement_is : IsSettlement book core orders mark later
@@ -410,7 +411,8 @@ module _ (book : Book) (core : Core) (is : IsCoreOf book core) (orders : List Or
               added = starting new rows rows adding;
               in_range = λ _. tt;
               balanced = subst (AreBalanced new) (same_accounts (held_in book core) core rows refl)
-                  (balanced_after (held_in book core) rows new adding (balanced_core book core is) codes leads.balances);
+                  (balanced_after (held_in book core) rows new adding
+                  (balanced_core book core is) codes leads.balances);
               repeated = λ k e. absurd (cc);
               nothing = λ e. absurd (cc);
             };

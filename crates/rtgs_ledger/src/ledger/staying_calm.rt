@@ -1,5 +1,6 @@
 //! Whether nothing that is queued can settle after a command, as it could not before.
-ghost use Rattle.std.specs.Prelude.{◌≡◌, ◌↔◌, ◌≤◌, ◌<◌, ◌^◌, All, IfOk, IfSome, IsTrue, true, false, length, slice_index};
+ghost use Rattle.std.specs.Prelude.{◌≡◌, ◌↔◌, ◌≤◌, ◌<◌, ◌^◌, All, IfOk, IfSome, IsTrue, true, false, length};
+ghost use Rattle.std.specs.Prelude.{slice_index};
 ghost use Rattle.std.specs.Prelude.{◌+ℤ◌, ◌-ℤ◌, ◌<ℤ◌, ◌≤ℤ◌, ◌==◌, if◌then◌else◌, pos};
 ghost use Rattle.rtgs_records.specs.Records.{core_in};
 ghost use Rattle.std.specs.List.{AllByRecursion};
@@ -27,8 +28,8 @@ use rtgs_records::queues::laws::queues_are_of_the_waiting;
 use std::alloc::AllocError;
 
 impl Ledger {
-    /// Whether nothing can settle after the rows, as it could not before. Where neither the limits that are known nor the
-    /// rows themselves tell, the limits are found again, by one resolution of the book before the rows.
+    /// Whether nothing can settle after the rows, as it could not before. Where neither the limits that are known nor
+    /// the rows themselves tell, the limits are found again, by one resolution of the book before the rows.
     pub(super) fn stays_calm(&mut self, change: &Change) -> bool
         ensures same { self.new ≡ self.old }
         ensures calm { (old new : Book) → IsCoreOf old self.old.core → Leads old change.now new
@@ -54,8 +55,8 @@ impl Ledger {
         self.stays_below(rows)
     }
 
-    // Whether the limits are those that a resolution of the book would find, as far as can be told without one: it found
-    // them, no row has lowered them since, and no headroom has reached its limit.
+    // Whether the limits are those that a resolution of the book would find, as far as can be told without one: it
+    // found them, no row has lowered them since, and no headroom has reached its limit.
     fn has_fresh_limits(&self) -> bool {
         self.limits.fresh && self.stays_below(&[])
     }

@@ -20,4 +20,5 @@ returns-else-changes_queues c =
     let core = core_in c.args.records.now in
     let later = core_after_row core c.args.row.now in
     subst (Lowers core later) (sym c.nothing.ensures)
-    (nothing_falls core later (row_keeps_queues c.args.row.now core (c.changes_queues.ensures c.if-changes_queues.false)))
+    (nothing_falls core later (row_keeps_queues c.args.row.now core
+    (c.changes_queues.ensures c.if-changes_queues.false)))
