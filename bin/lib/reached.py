@@ -21,6 +21,8 @@ NAME = r"[^\s(){}\[\],;.`]+"
 PATH = re.compile(rf"{NAME}(?:\.{NAME})*")
 DEFINED = re.compile(rf"^(?:pub |abbrev |unfoldable |record |data )*({NAME})(?= |:|$)")
 DATA = re.compile(r"^(?:pub )?data ")
+# the head of a module that has parameters, which its definitions take too
+HEAD = re.compile(r"^ *module\b[^\n]*?(?:\n +[^\n]*?)*?\bwhere$", re.M)
 VARIANT = re.compile(rf"^ +pub ({NAME}) :")
 USED = re.compile(r"^(?:pub )?use Rattle\.(\w+(?:\.[^\s.{};]+)*)(?:\.\{([^}]*)\})?(?: as ([^\s;]+))?", re.M)
 TYPE = re.compile(r"\b[A-Z]\w*")
@@ -72,13 +74,25 @@ class Definitions:
     def __init__(self, home):
         self.home = home
         text = re.sub(r"--[^\n]*", "", read(path_of(home)))
-        self.names, self.texts, self.owners, name = imports(text), {}, {}, None
-        for line in USED.sub("", text).splitlines():
-            found = DEFINED.match(line) if line[:1].strip() else None
-            name = found[1] if found else name
-            if name and line.strip():
-                self.texts[name] = f"{self.texts.get(name, '')}{line}\n"
-                variant = DATA.match(self.texts[name]) and VARIANT.match(line)
+        self.names, self.texts, self.owners = imports(text), {}, {}
+        text = HEAD.sub(lambda it: it[0].replace("\n", " "), USED.sub("", text))
+        self.take([it for it in text.splitlines() if it.strip()])
+
+    def take(self, lines):
+        """Takes each line to the definition to which it belongs. One that stands in a module begins with its head."""
+        heads, name, is_data = [], None, False
+        for line in lines:
+            bare = line.lstrip(" ")
+            depth = len(line) - len(bare)
+            heads = [it for it in heads if it[0] < depth]
+            if bare.startswith("module "):
+                heads.append((depth, f"{bare}\n"))
+                continue
+            found = DEFINED.match(bare) if depth == 2 * len(heads) else None
+            name, is_data = (found[1], bool(DATA.match(bare))) if found else (name, is_data)
+            if name:
+                self.texts[name] = f"{self.texts.get(name) or ''.join(it[1] for it in heads)}{line}\n"
+                variant = is_data and VARIANT.match(line)
                 self.owners.update({name: name, **({variant[1]: name} if variant else {})})
 
     def named(self, text):

@@ -59,6 +59,22 @@ PASSED = {
     "rtgs_lists/src/lib.rt": "mod counts;\n\npub use counts::{\n    Count, Rows,\n};\n",
     "rtgs_lists/src/counts.rt": "/// How many.\npub struct Count(u64);\n\n/// Rows.\npub enum Rows {\n    One,\n}\n",
 }
+# definitions in modules with parameters, whose heads may take two lines, and one behind them
+IN_MODULES = """use Rattle.rtgs_book.specs.Days.{day}
+use Rattle.rtgs_lists.specs.Sums.{sum}
+module _ (n : ℕ)
+    (is : day n ≡ n) where
+  -- what stands inside
+  pub record IsWhole : Type 0 where
+    pub is : n ≡ n
+
+  module _ (m : ℕ) where
+    abbrev pub IsInner : Type 0
+    IsInner = sum m ≡ n
+
+abbrev pub IsBare : ℕ → Type 0
+IsBare n = n ≡ n
+"""
 # each name of them, and what it leads to
 BY_NAME = {
     "Rattle.rtgs_book.specs.Sums.{sum}": ("sum 1 ≡ 1", "rtgs_lists Sums", 2),
@@ -165,6 +181,15 @@ class Promises(unittest.TestCase):
             these = "this file" if count == 1 else f"these {count} files"
             self.assertEqual((ran.returncode, said), (0, f"To judge it, read {these}: {files}."), path)
             self.assertIn(f"{count:3} files {lines:5} lines second::both", ran.stdout)
+
+    def test_what_stands_in_a_module_names_what_its_head_names(self):
+        for name, text in {**PASSED, "rtgs_book/specs/Inside.antt": IN_MODULES}.items():
+            self.write(name, text)
+        for name, files in (("IsWhole", "these 2 files: rtgs_book Inside, Days"),
+                            ("IsInner", "these 3 files: rtgs_book Inside, Days; rtgs_lists Sums"),
+                            ("IsBare", "this file: rtgs_book Inside")):
+            ran, said = self.reading(f"ghost use Rattle.rtgs_book.specs.Inside.{{{name}}};", f"{name} 1")
+            self.assertEqual((ran.returncode, said), (0, f"To judge it, read {files}."), ran)
 
     def test_types_that_a_signature_names_are_read_too(self):
         for name, text in PASSED.items():
