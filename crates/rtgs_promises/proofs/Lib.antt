@@ -2,6 +2,7 @@ mod Anew
 mod Batches
 mod Crashes
 mod Determined
+mod Files
 mod Final
 mod Headlines
 mod InMemory
@@ -9,4 +10,5 @@ mod Released
 mod Lives
 mod Most
 mod OneRequest
+mod Programs
 mod Resolving

@@ -2,4 +2,5 @@ pub mod Headline
 pub mod Keys
 pub mod Numbers
 pub mod Openings
+pub mod Program
 pub mod Stops

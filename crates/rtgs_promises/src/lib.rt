@@ -3,6 +3,7 @@
 //! know what is proved of the desk reads the public modules, and the definitions that they name:
 //!
 //! - `headline`: the main theorem, which is promise 1;
+//! - `program`: promise 1 of the runs of the program;
 //! - `requests`: promises 2, 12 and 13, on requests over HTTP;
 //! - `desks`: promises 3, 4, 6, 7, 11 and 15, as far as they are about a desk's calls, its tables and what a crash
 //!   leaves;
@@ -18,6 +19,7 @@ mod living;
 mod making;
 mod memory;
 pub mod numbers;
+pub mod program;
 pub mod requests;
 mod serving;
 mod sessions;
