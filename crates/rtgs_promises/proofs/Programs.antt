@@ -39,7 +39,7 @@ use Rattle.rtgs_book_file.specs.stored_desk.Stored.{AreTablesOf}
 use Rattle.rtgs_book_file.specs.declared.abandoned_book.AbandonedBook.{AbandonedBook}
 use Rattle.rtgs_book_file.specs.declared.cause.Cause.{Cause}
 use Rattle.rtgs_book_file.specs.declared.cause.Cause.TheVariants.{NotLocked, NotVacant, NotReadable, NotReached}
-use Rattle.rtgs_book_file.specs.declared.cause.Cause.TheVariants.{Abandoned}
+use Rattle.rtgs_book_file.specs.declared.cause.Cause.TheVariants.{NotStarted, Abandoned}
 use Rattle.rtgs_book_file.specs.declared.released.Released.{Released}
 use Rattle.rtgs_book_file.specs.declared.unopened.Unopened.{Unopened}
 use Rattle.rtgs_cli_arguments.specs.declared.invocation.Invocation.{Invocation}
@@ -141,6 +141,7 @@ module _ {K S : Type 0} (k : Ghosts K) (first : opening.Ghosts S)
   unopened_run (NotLocked refused) why = tt
   unopened_run (NotVacant taken) why = tt
   unopened_run (NotReadable unread) why = tt
+  unopened_run (NotStarted unstarted) why = tt
   unopened_run (NotReached unreached) why = tt
   unopened_run (Abandoned fault closed) (inl never) = absurd never
   unopened_run (Abandoned fault closed) (inr it) = record {
@@ -162,6 +163,7 @@ module _ {K S : Type 0} (k : Ghosts K) (first : opening.Ghosts S)
   unmade_run (NotLocked refused) why = tt
   unmade_run (NotVacant taken) why = tt
   unmade_run (NotReadable unread) why = tt
+  unmade_run (NotStarted unstarted) why = tt
   unmade_run (NotReached unreached) why = tt
   unmade_run (Abandoned fault closed) (inl never) = absurd never
   unmade_run (Abandoned fault closed) (inr it) = record {
@@ -187,6 +189,7 @@ module _ {K S : Type 0} (k : Ghosts K) (first : opening.Ghosts S)
   unmigrated_run (NotLocked refused) why = tt
   unmigrated_run (NotVacant taken) why = tt
   unmigrated_run (NotReadable unread) why = tt
+  unmigrated_run (NotStarted unstarted) why = tt
   unmigrated_run (NotReached unreached) why = tt
   unmigrated_run (Abandoned fault closed) (inl never) = absurd never
   unmigrated_run (Abandoned fault closed) (inr it) = record {
