@@ -165,5 +165,5 @@ def run(given, report):
             trial.try_files(given.only)
             if not given.only or "chance" in given.only:
                 trial.try_by_chance(CHANGED_BY_CHANCE)
-    report.sums(f"{report.right + report.wrong} files: {report.wrong} were changed, or had an answer that no operator is "
-                f"told of")
+    told = f"{report.wrong} were changed, or had an answer that no operator is told of"
+    report.sums(f"{report.right + report.wrong} files: {told}")
