@@ -42,5 +42,5 @@ def run(_given, report):
         for words, text in zip(asked, wanted):
             ran = runs.run(*words.split(), cwd=here)
             report.sees(f"desk {words.strip()}", f"$ desk {words}{ran.out}{ran.err}", text)
-    report.sums(f"{len(asked)} runs over {len(books)} books of earlier versions: {report.right} things as they must be, "
-                f"{report.wrong} not")
+    told = f"{report.right} things as they must be, {report.wrong} not"
+    report.sums(f"{len(asked)} runs over {len(books)} books of earlier versions: {told}")

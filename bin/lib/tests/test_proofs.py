@@ -58,9 +58,10 @@ class Chains(unittest.TestCase):
                 begun[it.name] = jobs
             return it.name not in failing
 
-        with mock.patch.object(kit, "is_proved", is_proved), mock.patch.object(kit, "processors", lambda: 4), \
-                mock.patch.object(kit, "memory_of", lambda _: 1), mock.patch.object(kit, "held", contextlib.nullcontext), \
-                mock.patch.dict(os.environ, {"RT_JOBS": ""}), mock.patch.object(kit.scripts(), "processors", lambda: 4):
+        stands_in = {"is_proved": is_proved, "processors": lambda: 4, "memory_of": lambda _: 1,
+                     "held": contextlib.nullcontext}
+        with mock.patch.multiple(kit, **stands_in), mock.patch.object(kit.scripts(), "processors", lambda: 4), \
+                mock.patch.dict(os.environ, {"RT_JOBS": ""}):
             return proofs.Proofs(self.all, lambda _: None).are_made(), begun
 
     def test_the_longest_chain_gets_all_processors_and_another_what_is_idle(self):
