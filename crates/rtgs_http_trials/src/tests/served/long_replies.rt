@@ -2,7 +2,7 @@
 use super::super::test_desk::TestDesk;
 use super::queues::{file_of, results_of};
 use rtgs_tests_desks::{Trouble, ensure};
-use std::alloc::{AllocError, Global};
+use std::alloc::Global;
 use std::test::Fail;
 
 // A desk at which ALFA has this many orders of two cents in its queue.
@@ -66,21 +66,19 @@ fn a_statement_of_500_orders_is_shown(rt: HostRuntime) -> Result<(), Fail> {
     desk.is_answered("ALFA GET /statements/2024-03-04", statement.as_str())
 }
 
-// The code, the name and the key of a bank by its number, which has three digits.
-fn bank_of(alloc: Global, number: u32) -> Result<[String; 3], AllocError> {
-    Ok([
-        format!(in alloc; "BANK{number:03}")?,
-        format!(in alloc; "Bank {number:03}")?,
-        format!(in alloc; "00000000000000000000000000000{number:03}")?,
-    ])
+// Adds the bank of this number, which has three digits.
+fn add_bank(alloc: Global, desk: &mut TestDesk, number: u32) -> Result<(), Fail> {
+    let code = format!(in alloc; "BANK{number:03}")?;
+    let name = format!(in alloc; "Bank {number:03}")?;
+    let key = format!(in alloc; "00000000000000000000000000000{number:03}")?;
+    desk.add(code.as_str(), name.as_str(), key.as_str())
 }
 
 // A desk without a day that has this many banks.
 fn desk_of_banks(alloc: Global, count: u32) -> Result<TestDesk, Fail> {
     let mut desk = TestDesk::new(alloc, usize::MAX, Trouble::Lost)?;
     for number in 1..=count {
-        let [code, name, key] = bank_of(alloc, number)?;
-        desk.add(code.as_str(), name.as_str(), key.as_str())?;
+        add_bank(alloc, &mut desk, number)?;
     }
     Ok(desk)
 }
