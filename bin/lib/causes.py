@@ -4,7 +4,8 @@ No contract can say that memory was refused, or that a store met a fault: a body
 proved. So each place that gives one of these answers has to stand right behind its cause, and what does not is found
 here. Memory ran out
 
-- in an arm of a `match` whose pattern is an error for lack of memory, or any error of what fails for that alone;
+- in an arm of a `match` whose pattern is an error for lack of memory, and no other, or any error of what fails for
+  that alone;
 - behind a `let Ok(..) = .. else`, or an `if` that compares the kind of an error;
 - in the `from` that `?` calls with the error of an allocation.
 
@@ -60,7 +61,7 @@ FROM = re.compile(r"fn from\(\w+: Alloc(?:Error|Failed<)")
 MEMORY = Answer(
     "memory ran out",
     rf"\b(?:AllocError|AllocFailed|OutOfMemory|(?:{'|'.join(FOR_OTHERS)})(?=(?:::<[^>()]*>)?\())\b",
-    r"\s*Err\(_\)\s*|(?!.*\bOk\().*(?:::OutOfMemory\b|\.is_memory\(\)).*",
+    r"\s*Err\(_\)\s*|(?!.*\bOk\()(?!.*\|\|).*(?:::OutOfMemory\b|\.is_memory\(\)).*",
     rf"(?:\blet Ok\([^;]*\belse|\bif \w+(?:\.\w+\(\))* == \w+::OutOfMemory){RETURNS}",
     {("rtgs_http_bodies", "refusal_of"), ("rtgs_book_file", "created")},
 )

@@ -254,7 +254,7 @@ class Number(int):
         if how == "p":
             return f"10^{len(str(int(self))) - 1}"
         if how == "w":
-            return WORDS[self]
+            return WORDS[self] if self < len(WORDS) else str(int(self))
         if how == "n":
             return WORDS[len(str(int(self)))]
         if how == "K":

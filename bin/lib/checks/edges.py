@@ -20,6 +20,7 @@ import shlex
 import shutil
 import socket
 import sqlite3
+import subprocess
 import time
 
 import kit
@@ -293,9 +294,14 @@ def long_rows(count=LONGEST // 4096):
     return rows, text
 
 
+def repeats(rows):
+    """Returns the results of rows that have settled, and come again."""
+    return [f"{row.split(',')[0]},repeated,{it},settled" for it, row in enumerate(rows, 1)]
+
+
 def long_orders(edges):
-    """An order file of as many bytes as one may have, of which each order is answered and in the book, and one of a
-    byte more, which is refused."""
+    """An order file of as many bytes as one may have, of which each order is answered and in the book, one of a byte
+    more, which is refused, and one that can be read only once."""
     rows, text = long_rows()
     long = Edges(edges.folder, edges, "long.desk")
     desks.new_book(f"{long.folder}/{long.book}", desks.KEYS, len(rows))
@@ -304,6 +310,10 @@ def long_orders(edges):
     long.follows("import @ ALFA longer.csv => !63")
     answers = [f"{row.split(',')[0]},settled,{it},{it}" for it, row in enumerate(rows, 1)]
     long.follows(f"import @ ALFA longest.csv => {' / '.join([RESULTS, *answers])}")
+    # (what is read once from such a file, is there no more)
+    os.mkfifo(f"{long.folder}/once.csv")
+    with subprocess.Popen(["cp", f"{long.folder}/longest.csv", f"{long.folder}/once.csv"]):
+        long.follows(f"import @ ALFA once.csv => ={' / '.join([RESULTS, *repeats(rows)])}")
     sent = re.findall(r"^sent +\d+ (\S+)", long.prints(f"statement @ ALFA {desks.DATE}"), re.M)
     edges.sees("orders of longest.csv in the book", sent, [it.split(",")[0] for it in rows])
 

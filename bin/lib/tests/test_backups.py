@@ -45,6 +45,18 @@ class Backups(unittest.TestCase):
             self.assertEqual(self.copies(), before)
             self.assertEqual(sorted(os.listdir(self.to)), [".lock", os.path.basename(before[0])])
 
+    def test_a_copy_and_then_its_folder_are_synced(self):
+        tools, told = f"{self.to}-tools", f"{self.to}-synced"
+        os.mkdir(tools)
+        with open(f"{tools}/sync", "w", encoding="utf-8") as it:
+            it.write(f'#!/bin/sh\necho "$@" >> {told}\nls {self.to} >> {told}\n')
+        os.chmod(it.name, 0o755)
+        made = self.backup(self.book, self.to, before=f"PATH={tools}:$PATH")[1].split(",")[0]
+        with open(told, encoding="utf-8") as it:
+            first, *listed, last, name = it.read().splitlines()
+        self.assertRegex(first, rf"{self.to}/\.part-\w+/\S+ {self.to}/\.part-\w+$")
+        self.assertEqual((listed, last, name), ([], self.to, os.path.basename(made)))
+
     def test_a_tool_that_holds_the_lock_is_waited_for_and_not_held_still(self):
         with subprocess.Popen(["flock", f"{self.book}.lock", "sleep", "1"]):
             self.assertEqual(self.backup(self.book, self.to)[0], 0)

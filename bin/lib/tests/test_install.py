@@ -10,7 +10,7 @@ from unittest import mock
 
 import kit
 from lib import completions, desks, evidence, helps, installing, manual, sources, stated
-from lib.checks import install
+from lib.checks import install, served
 
 WHOLE = """\
 The settlement desk of a central bank
@@ -314,6 +314,12 @@ class Installing(unittest.TestCase):
         self.assertEqual(self.modes(open_folder), {"": "755", "bank.desk": "600"})
         for line in ("UMask=0077\n", "StateDirectoryMode=0700\n"):
             self.assertRaises(desks.Broken, self.modes, unit.replace(line, ""))
+
+    def test_the_unit_serves_as_many_connections_as_may_be_and_is_started_again(self):
+        self.installed()
+        unit = desks.content(f"{self.prefix}/{installing.UNIT}").decode()
+        self.assertIn(f" --count {served.MOST} ", install.setting(unit, "ExecStart"))
+        self.assertEqual(install.setting(unit, "Restart"), "always")
 
     @needs("systemd-analyze")
     def test_systemd_finds_no_fault_with_the_unit(self):
