@@ -88,7 +88,7 @@ FREE_OF_MEMORY = [
     "    let mut failure = none;\n    failure = Fault::OutOfMemory;\n    Err(failure)",
     "    let Some(row) = rows.first() else {\n        return Err(Refusal::OutOfMemory);\n    };\n    Ok(row)",
     "    match rows {\n        Err(_) | Ok(_) if many => Err(AllocError),\n        _ => none,\n    }",
-    "    match read(rows) {\n        Err(error) if error.is_memory() || many => Err(AllocError),\n        it => it,\n    }",
+    "    match rows {\n        Err(it) if it.is_memory() || many => Err(AllocError),\n        it => it,\n    }",
     "    if text.len() > 200 {\n        return Reply::answer_lost();\n    }\n    Reply::of(text)",
     "    let Ok(row) = rows.first() else {\n        return none;\n    };\n    Err(AllocError)",
     "    Err(without_room::<T>(rows))",
