@@ -25,6 +25,7 @@ pub use crate::scenarios::{
     queue_json, references_of,
 };
 pub use crate::scripts::{
-    Reply, answered, command, commands, follows, is_expected, is_expected_by_itself, reply_text,
+    Reply, addition, answered, command, commands, follows, is_expected, is_expected_by_itself,
+    reply_text,
 };
 pub use crate::silence::is_silent;

@@ -2,11 +2,12 @@
 //! with `due` and that day, the opening of an automatic day with `automatic`. Behind an answer stands ` auto` with the
 //! mark, the count and the cents of what was resolved after the command, if anything was. A line that is not understood
 //! fails the test.
-use rtgs_book::{Answer, Command, NewOrder, Refusal, Resolution, WholeAnswer};
-use rtgs_cli_arguments::CommandWords;
+use rtgs_book::{Answer, Command, NewDay, NewOrder, Refusal, Resolution, WholeAnswer};
 use rtgs_desk::Desk;
 use rtgs_keeper::Keeper;
-use rtgs_money::{Amount, BusinessDate, Code, Reference};
+use rtgs_money::{
+    Amount, BusinessDate, Code, Credit, Key, Lexical, Name, PostingAmount, Reference,
+};
 use std::alloc::Global;
 use std::test::Fail;
 
@@ -29,60 +30,76 @@ pub fn command(line: &str) -> Result<Command, Fail> {
     if kind == "order" && count == 7 && words.next() == Some("due") {
         return order(first, second, third, fourth, words.next());
     }
-    match spelt(kind, count, first, second, third) {
-        Some(words) => Ok(words.read()?),
+    match spelt(kind, count, first, second, third)? {
+        Some(command) => Ok(command),
         None => Err(Fail::new("no command")),
     }
 }
 
-// The words of a command of this kind, of this many words, that is no order.
-fn spelt<'a>(
+// The command of this kind, of this many words, that is no order.
+fn spelt(
     kind: &str,
     count: usize,
-    first: &'a str,
-    second: &'a str,
-    third: &'a str,
-) -> Option<CommandWords<'a>> {
-    match kind {
-        "add" if count == 3 => Some(CommandWords::Add {
-            code: first,
-            name: "A Bank",
-            key: second,
-        }),
-        "credit" if count == 3 => Some(CommandWords::Credit {
-            code: first,
-            cents: second,
-        }),
-        "post" | "debit" if count == 4 => Some(CommandWords::Post {
-            code: first,
-            reference: second,
-            cents: third,
-            debit: kind == "debit",
-        }),
-        "withdraw" if count == 3 => Some(CommandWords::Withdraw {
-            code: first,
-            reference: second,
-        }),
-        "open" if count == 3 && second == "automatic" => Some(CommandWords::Open {
-            date: first,
-            automatic: true,
-        }),
-        _ => spelt_for_a_day(kind, count, first),
-    }
+    first: &str,
+    second: &str,
+    third: &str,
+) -> Result<Option<Command>, Lexical> {
+    let command = match kind {
+        "add" if count == 3 => addition(first, "A Bank", second)?,
+        "credit" if count == 3 => Command::SetCredit {
+            code: Code::read(first.as_bytes())?,
+            credit: Credit::read(second.as_bytes())?,
+        },
+        "post" | "debit" if count == 4 => posting(first, second, third, kind == "debit")?,
+        "withdraw" if count == 3 => Command::Withdraw {
+            sender: Code::read(first.as_bytes())?,
+            reference: Reference::read(second.as_bytes())?,
+        },
+        _ => return spelt_for_a_day(kind, count, first, second),
+    };
+    Ok(Some(command))
 }
 
-// The words of a command about the day, which is not automatic.
-fn spelt_for_a_day<'a>(kind: &str, count: usize, date: &'a str) -> Option<CommandWords<'a>> {
-    match kind {
-        "open" if count == 2 => Some(CommandWords::Open {
-            date,
-            automatic: false,
+/// The addition of a participant of this code, name and key.
+pub fn addition(code: &str, name: &str, key: &str) -> Result<Command, Lexical> {
+    Ok(Command::Add {
+        code: Code::read(code.as_bytes())?,
+        name: Name::read(name.as_bytes())?,
+        key: Key::read(key.as_bytes())?.digest(),
+    })
+}
+
+// The posting that these words give, which takes money where it is a debit.
+fn posting(code: &str, reference: &str, cents: &str, debit: bool) -> Result<Command, Lexical> {
+    Ok(Command::Post {
+        code: Code::read(code.as_bytes())?,
+        reference: Reference::read(reference.as_bytes())?,
+        cents: if debit {
+            PostingAmount::read_debit(cents.as_bytes())?
+        } else {
+            PostingAmount::read(cents.as_bytes())?
+        },
+    })
+}
+
+// The command about the day of this kind, of this many words.
+fn spelt_for_a_day(
+    kind: &str,
+    count: usize,
+    date: &str,
+    choice: &str,
+) -> Result<Option<Command>, Lexical> {
+    let command = match kind {
+        "open" if count == 2 || count == 3 && choice == "automatic" => Command::OpenDay(NewDay {
+            date: BusinessDate::read(date.as_bytes())?,
+            automatic: count == 3,
         }),
-        "cutoff" if count == 2 => Some(CommandWords::CutOff { date }),
-        "close" if count == 2 => Some(CommandWords::Close { date }),
-        "resolve" if count == 1 => Some(CommandWords::Resolve),
-        _ => None,
-    }
+        "cutoff" if count == 2 => Command::CutOff(BusinessDate::read(date.as_bytes())?),
+        "close" if count == 2 => Command::CloseDay(BusinessDate::read(date.as_bytes())?),
+        "resolve" if count == 1 => Command::Resolve,
+        _ => return Ok(None),
+    };
+    Ok(Some(command))
 }
 
 // The order that these words give, which may have a due date.

@@ -5,9 +5,8 @@ use super::memory::InMemory;
 use super::store::{Booked, Ended, Job, Store};
 use super::two_keepers::{end_in_one_book, make};
 use rtgs_book::{Answer, Command, NewOrder, Refusal};
-use rtgs_cli_arguments::CommandWords;
 use rtgs_money::BusinessDate;
-use rtgs_tests_desks::{Reply, command, desk_over, follows};
+use rtgs_tests_desks::{Reply, addition, command, desk_over, follows};
 use std::alloc::Global;
 use std::fmt::Write;
 use std::mem;
@@ -111,18 +110,8 @@ post ABC C 1";
 
 #[test]
 fn texts_and_numbers_reach_their_bounds(rt: HostRuntime) -> Result<(), Fail> {
-    let shortest = CommandWords::Add {
-        code: "ABC",
-        name: "A",
-        key: LOWEST_KEY,
-    }
-    .read()?;
-    let longest = CommandWords::Add {
-        code: "Z9999999",
-        name: LONGEST_NAME,
-        key: HIGHEST_KEY,
-    }
-    .read()?;
+    let shortest = addition("ABC", "A", LOWEST_KEY)?;
+    let longest = addition("Z9999999", LONGEST_NAME, HIGHEST_KEY)?;
     refuse_the_last::<InMemory, OnDisks>(
         rt.alloc(),
         &[shortest, longest],
