@@ -2,17 +2,19 @@
 ghost use Rattle.std.specs.Prelude.{◌≡◌};
 
 use crate::closed_files::ClosedFiles;
-use sqlite::{FileFrom, Files, Leftover, Start};
+use crate::unopened_store::UnopenedStore;
+use sqlite::{FileFrom, Files, Start};
 use std::snapshot::Snapshot;
 
-/// What a store leaves of a book's files. Nothing else can be said to be gone, so no value that has no files can.
+/// What a store leaves of a book's files. Each is made of what the store gave alone, and nothing else can be said to be
+/// gone: so no value that never had files can.
 pub(crate) trait StoreFiles: Drop {}
 
 /// The files of a store that was abandoned.
 impl<S: Start> StoreFiles for Files<FileFrom<S>> {}
 
-/// What is left of a store that did not open, if anything is.
-impl<S: Start> StoreFiles for Option<Leftover<FileFrom<S>>> {}
+/// A store that did not open, with what is left of its files, if anything is.
+impl<S: Start> StoreFiles for UnopenedStore<FileFrom<S>> {}
 
 /// The files of a store that was closed.
 impl<S: Start> StoreFiles for ClosedFiles<FileFrom<S>> {}

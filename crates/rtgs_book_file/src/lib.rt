@@ -30,6 +30,7 @@ mod small_pages;
 mod store;
 pub mod stored_desk;
 mod unopened;
+mod unopened_store;
 
 pub use crate::abandoned_book::AbandonedBook;
 pub use crate::book_file::BookFile;

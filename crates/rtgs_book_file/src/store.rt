@@ -10,6 +10,7 @@ use crate::files_gone::FilesGone;
 use crate::held_lock::HeldLock;
 use crate::looked_at::LookedAt;
 use crate::not_reached::NotReached;
+use crate::unopened_store::open_store;
 use rtgs_tables::SqlKeeper;
 use sqlite::{Connection, FileFrom, FileStore, Start};
 use sqlite_disk::Disk;
@@ -32,11 +33,12 @@ pub(crate) fn connect<S: Start>(
 {
     let (path, locked, start) = file.into_parts();
     let lock = HeldLock::of(locked);
-    match Connection::open_from(rt, path, false, start) {
+    match open_store(rt, path, start) {
         Ok(conn) => Ok((conn, lock)),
-        Err((error, left)) => {
-            let _name = lock.release(&FilesGone::of(left));
-            Err(NotReached::of(&error))
+        Err(unopened) => {
+            let why = unopened.why();
+            let _name = lock.release(&FilesGone::of(unopened));
+            Err(why)
         }
     }
 }

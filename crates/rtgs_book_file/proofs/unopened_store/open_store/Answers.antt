@@ -9,7 +9,7 @@ use Rattle.sqlite.specs.Recovery.{Image}
 use Rattle.sqlite.specs.declared.Leftover.{Leftover}
 use Rattle.sqlite.specs.declared.error.Error.{Error as SqlError}
 use Rattle.rtgs_book_file.specs.Refused.{IsOutOfReach, FailsOver}
-use Rattle.rtgs_book_file.proofs.store.connect.Goals as goal
+use Rattle.rtgs_book_file.proofs.unopened_store.open_store.Goals as goal
 
 abbrev image : List ℕ → List ℕ → Image
 image log db = record { log = log; db = db }
@@ -38,7 +38,7 @@ returns-in-Err-clause-refused g c =
     let alike = seen g.S.Start.log g.S.Start.db in
     record {
       error = c.in-Err.error;
-      reported = c.of-in-Err.ensures;
+      reported = refl;
       named = c.in-Err.ensures.named;
       why = reached _ _ c.in-Err.error (λ files. IsFresh true files.log) (λ files. IsFresh false files.db)
           (λ files log db. ap₂ image (ap₂ alike log.0 log.1) (ap₂ alike db.0 db.1)) c.in-Err.left
