@@ -4,10 +4,13 @@
 and the status 0. The money must have moved once. A peer that is refused, and then sends 100 KB more, must be able to
 send them and get its whole reply, and the next one its own within two seconds, while the first stays. A long reply to a
 peer that reads slowly must be what the program prints. A server of a million connections must serve the first ones.
-Each must listen at the very port that it is given, below 1024 too, or be refused. The tests of the gate serve over a
-real port from a child of the test; this is the program itself.
+Each must listen at the very port that it is given, below 1024 too, or be refused. The resolver must be asked once for a
+command that resolves, for a close that is refused and for one that is not, and not for others. The tests of the gate
+serve over a real port from a child of the test; this is the program itself. Without a C compiler, `cc`, the resolutions
+are not counted.
 
-Shows: that the program takes connections, acts once on what is sent twice, replies to the byte, and ends as it says.
+Shows: that the program takes connections, acts once on what is sent twice, replies to the byte, and ends as it says;
+and that no resolution is done twice.
 Cannot show: many connections and other requests: `openapi` sends the others. Without the right to open a port below
 1024, that one is only seen to be refused.
 """
@@ -17,8 +20,11 @@ import socket
 import sqlite3
 import time
 
-from lib import desks, runs
+from lib import desks, full, resolutions, runs
+from lib.random_commands import key_of
 
+RESOLUTIONS = "how often the resolver is asked"
+PARTS = {RESOLUTIONS: "cc"}
 CENTS = 150
 REPLY = "HTTP/1.1 {} {}\r\nContent-Type: {}\r\nContent-Length: {}\r\nConnection: close\r\n\r\n{}"
 ANSWERS = ('{"answer":"settled","mark":1,"number":1}', '{"answer":"repeated","mark":1,"number":1,"state":"settled"}')
@@ -126,6 +132,45 @@ def most_connections(book, report):
         server.kill()
 
 
+def operator(path, **body):
+    return desks.request("POST", f"/desk/{path}", desks.OPERATOR, json.dumps(body))
+
+
+def pays(sender, receiver, cents):
+    return desks.order(key_of(full.CODES[sender]), full.CODES[receiver], 1, cents)
+
+
+# What a book of a hundred banks is given, of which the first has money: what it answers, and how often the resolver is
+# asked for it. Two orders wait for each other as the day is to be closed.
+GIVEN = (("an order that waits", pays(1, 0, 20), "queued", 0),
+         ("an order that waits for it", pays(0, 1, CENTS + 10), "queued", 0),
+         ("a cut-off", operator("cutoff", date=desks.DATE), "cut off", 0),
+         ("a close that is refused", operator("close", date=desks.DATE), "Resolvable", 1),
+         ("a resolution", operator("resolve"), "resolved", 1),
+         ("a resolution of nothing", operator("resolve"), "nothing", 1),
+         ("a close", operator("close", date=desks.DATE), "closed", 1),
+         ("a close that comes again", operator("close", date=desks.DATE), "repeated", 0))
+
+
+def answer_in(reply):
+    """Returns what a reply answers, or the name of its refusal."""
+    said = json.loads(reply.partition("\r\n\r\n")[2] or "{}")
+    return said.get("answer") or said.get("name")
+
+
+def resolutions_counted(folder, report):
+    """How often the resolver is asked for each command, counted from outside."""
+    book = f"{folder}/hundred.desk"
+    posted = [full.Posting(1, full.CODES[0], "P-1", CENTS, desks.DATE)]
+    full.write(full.Book(desks.DATE, full.OPEN, [], posted), book)
+    with resolutions.Server(folder, book, MOST) as server:
+        for what, sent, answer, asked in GIVEN:
+            before = server.count()
+            report.sees(f"the answer to {what}", answer_in(said_to(server.port, sent)), answer)
+            report.sees(f"resolutions for {what}", server.count() - before, asked)
+        server.kill()
+
+
 def may_listen(port):
     """Returns whether a port can be listened at: not where it is taken, or where there is no right to it."""
     with contextlib.suppress(OSError), socket.create_server(("127.0.0.1", port)):
@@ -163,5 +208,9 @@ def run(_given, report):
         desks.new_book(book, desks.KEYS, CENTS)
         for look in (order_sent_twice, refused_peers, most_connections, ports, slow_reader):
             look(book, report)
-    report.sums(f"one order sent twice, peers that are refused or slow, the most connections, ports: {report.right} "
-                f"things as they must be, {report.wrong} not")
+        is_counted = bool(desks.installed(PARTS[RESOLUTIONS]))
+        if is_counted:
+            resolutions_counted(folder, report)
+    counted = f", {RESOLUTIONS}" if is_counted else ""
+    report.sums(f"one order sent twice, peers that are refused or slow, the most connections, ports{counted}: "
+                f"{report.right} things as they must be, {report.wrong} not")

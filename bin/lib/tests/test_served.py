@@ -1,10 +1,11 @@
 """The check `served` over servers that are stood in for."""
+import json
 import socket
 import threading
 import unittest
 from unittest import mock
 
-from lib import desks
+from lib import desks, full, resolutions
 from lib.checks import served
 from lib.report import Report
 
@@ -99,6 +100,28 @@ class Served(unittest.TestCase):
             server = Server(replies(reply))
             with server, socket.create_connection(("127.0.0.1", server.port)) as peer:
                 self.assertEqual(served.read_after(peer, b"1", 1), reply)
+
+    def counted(self, twice=None):
+        """Returns what is found of a server that asks the resolver as it must, and once more for this."""
+        report, server, counts = quiet(), mock.MagicMock(), [0]
+        server.__enter__.return_value = server
+        for what, _, _, asked in served.GIVEN:
+            counts += [counts[-1] + asked + (what == twice)] * 2
+        server.count.side_effect = counts
+        said = [served.reply_of(json.dumps({"answer": it})) for _, _, it, _ in served.GIVEN]
+        with mock.patch.object(resolutions, "Server", lambda *_: server), mock.patch.object(full, "write"), \
+                mock.patch.object(served, "said_to", side_effect=said):
+            served.resolutions_counted("", report)
+        return [it.splitlines()[0] for it in report.found]
+
+    def test_a_resolution_that_is_done_twice_is_found(self):
+        self.assertEqual(self.counted(), [])
+        for what, *_ in served.GIVEN:
+            self.assertEqual(self.counted(what), [f"resolutions for {what}"])
+
+    def test_an_answer_is_that_of_the_reply_or_its_refusal(self):
+        for body, answer in (('{"answer":"closed"}', "closed"), (served.REFUSAL, "NoSuchRoute"), ("", None)):
+            self.assertEqual(served.answer_in(served.reply_of(body)), answer)
 
     def test_a_port_is_the_one_that_was_given(self):
         server = Server(replies(self.account))

@@ -1,6 +1,6 @@
 //! Passing over orders that are not of a date, by looks at single rows. The dates of plain orders, those without a due
 //! date, never fall along their numbers. Any other order may have a later date than the orders after it.
-ghost use Rattle.std.specs.Prelude.{◌≡◌, Some, false, IfOk};
+ghost use Rattle.std.specs.Prelude.{◌≡◌, ◌<◌, ◌≤◌, ◌-◌, ◌*◌, Some, true, false, IfOk};
 ghost use Rattle.rtgs_book.specs.declared.book.Book.{Book};
 ghost use Rattle.rtgs_book.specs.Books.{has_due};
 ghost use Rattle.rtgs_book.specs.Soundness.{IsSound};
@@ -125,8 +125,12 @@ fn pass_due<S: Alter>(
     }
 }
 
-/// Whether orders with due dates stand so close that a pass over all orders is faster than to look at each.
-fn is_dense(looks: u32, low: u64, at: u64) -> bool {
+/// Whether orders with due dates stand so close that a pass over all orders is faster than to look at each: more than
+/// one in eight of those that were passed, the first 64 aside.
+fn is_dense(looks: u32, low: u64, at: u64) -> bool
+    ensures dense { result ≡ true → at - low < 8 * (looks - 64) }
+    ensures sparse { result ≡ false → 8 * (looks - 64) ≤ at - low }
+{
     (looks as u64)
         .saturating_sub(LOOKS_AT_LEAST)
         .saturating_mul(ORDERS_FOR_A_LOOK)
