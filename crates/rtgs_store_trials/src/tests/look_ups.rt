@@ -3,3 +3,4 @@ mod asking;
 mod both;
 mod looking;
 mod passing;
+mod steps;
