@@ -99,13 +99,15 @@ where
     seen_of(alloc, &mut desk)
 }
 
-// What is seen of it after each number of rows, and after none.
+// What is seen of it after each number of rows. There is none after which nothing was done: an answer is lost once a
+// row was answered, and for one that is refused for lack of memory, with what the row before it took, the results are
+// had. Before the first row memory is refused by another reply.
 fn seen_after_each<S: Store>(alloc: Global, serves: &Serves<'_, S>) -> Result<Vec<String>, Fail>
 where
     S::Kept: Keeper + Drop,
 {
     let mut parts = Vec::new(alloc);
-    for count in 0..=serves.rows.len() {
+    for count in 1..=serves.rows.len() {
         parts.push(seen_after(alloc, serves, count)?)?;
     }
     Ok(parts)
