@@ -197,8 +197,12 @@ class Listening:
 
     def processor_time(self):
         """Returns how many seconds of a processor the server has had. It is of one thread."""
-        with open(f"/proc/{self.process.pid}/schedstat", encoding="utf-8") as stat:
-            return int(stat.read().split()[0]) / 1e9
+        return processor_time(self.process.pid)
+
+
+def processor_time(pid):
+    """Returns how many seconds of a processor a process of one thread has had."""
+    return int(content(f"/proc/{pid}/schedstat").split()[0]) / 1e9
 
 
 class Server(Listening):

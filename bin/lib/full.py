@@ -5,12 +5,13 @@ import json
 import sqlite3
 import typing
 
-from lib import desks
+from lib import desks, readings
 from lib.random_commands import key_of
 
-# the most participants, and the most orders of each that wait
-BANKS, WAITING = 100, 500
+# the most participants, the most orders of each that wait, and the greatest amount of an order
+BANKS, WAITING, LARGEST = 100, 500, 10 ** 12
 CLOSED, OPEN = 0, 1
+PHASES = ("CLOSED", "OPEN", "CUTOFF")
 QUEUED, SETTLED, WITHDRAWN, REJECTED, HELD = range(5)
 STATES = ("queued", "settled", "withdrawn", "rejected", "held")
 # the order of the lines of a day report
@@ -65,6 +66,13 @@ def ring(count, state, amount_of=lambda bank: 1, **more):
     """Returns this many orders, of which each bank in turn sends one to the next bank."""
     return [Order(at + 1, code_of(at), f"A-{at + 1}", code_of(at + 1), amount_of(at % BANKS), state=state, **more)
             for at in range(count)]
+
+
+def crossed(count, **more):
+    """Returns this many queued orders of the greatest amount, of which each bank in turn sends one to each other bank
+    in turn."""
+    return [Order(at + 1, code_of(at), f"A-{at + 1}", code_of(at + 1 + at // BANKS % (BANKS - 1)), LARGEST,
+                  state=QUEUED, **more) for at in range(count)]
 
 
 def balances(book):
@@ -165,6 +173,69 @@ def queue(book, code):
     waiting = [it for it in book.orders if it.sender == code and it.state == QUEUED]
     return compact({"orders": [{"amount": it.amount, "number": it.number, "place": place, "reference": it.reference,
                                 "to": it.receiver} for place, it in enumerate(waiting, 1)]})
+
+
+def waits(book, state, code=None):
+    """Returns the orders in this state, of all banks or of one."""
+    return [it for it in book.orders if it.state == state and code in (None, it.sender)]
+
+
+def value_of(orders):
+    return sum(it.amount for it in orders)
+
+
+def status(book):
+    """Returns how the desk stands. Each settled order has a mark of its own."""
+    queued, held, marks = waits(book, QUEUED), waits(book, HELD), [it for it in book.orders if it.mark]
+    return compact({"automatic": False, "date": book.date, "held": len(held), "held_value": value_of(held),
+                    "next_mark": len(marks) + 1, "next_order": len(book.orders) + 1,
+                    "next_posting": len(book.postings) + 1, "participants": BANKS, "phase": PHASES[book.phase],
+                    "queued": len(queued), "queued_value": value_of(queued), "sum": sum(balances(book).values()),
+                    "tables": int(readings.tables_version()), "version": readings.program_version()})
+
+
+def listed(order):
+    """Returns an order as a line of the orders of its date has it."""
+    due, mark = order.due or "", str(order.mark or "")
+    texts = str(order.number), order.sender, order.reference, order.receiver, str(order.amount), due
+    return readings.Listed(*texts, STATES[order.state], mark)
+
+
+def queues(book):
+    """Returns the reading of all queues, where no bank has credit."""
+    accounts = {code: {"balance": cents, "credit": 0} for code, cents in balances(book).items()}
+    found = readings.queues_of([listed(it) for it in book.orders], accounts)
+    return compact({"automatic": False, "date": book.date, "phase": PHASES[book.phase], "queues": found})
+
+
+def held(book, code):
+    """Returns the reading of a bank's held orders."""
+    orders = sorted(waits(book, HELD, code), key=lambda it: (it.due, it.number))
+    return compact({"orders": [{"amount": it.amount, "due": it.due, "number": it.number, "reference": it.reference,
+                                "to": it.receiver} for it in orders]})
+
+
+def waiting(book, code):
+    """Returns the reading of why a bank waits that has no credit."""
+    queued, kept, room = waits(book, QUEUED, code), waits(book, HELD, code), balances(book)[code]
+    firsts = [{"amount": it.amount, "number": it.number, "reference": it.reference, "to": it.receiver} for it in queued]
+    short = max(queued[0].amount - room, 0) if queued else 0
+    return compact({**({"first": firsts[0]} if firsts else {}), "headroom": room, "held": len(kept),
+                    "held_value": value_of(kept), "queued": len(queued), "queued_value": value_of(queued),
+                    "short": short})
+
+
+def orders_of(book, date):
+    """Returns the orders of a date, as they are listed."""
+    lines = [",".join(listed(it)) + "\n" for it in book.orders if it.date == date]
+    return "".join([readings.ORDERS, *lines])
+
+
+def marks_of(book, date, together=False):
+    """Returns the marks of a date. Where one resolution settled all, there is one."""
+    orders = [it for it in book.orders if it.date == date and it.mark]
+    marks = [(1, len(orders), value_of(orders))] if together else [(it.mark, 1, it.amount) for it in orders]
+    return "".join([readings.MARKS, *(f"{number},{count},{value}\n" for number, count, value in marks)])
 
 
 def compact(value):

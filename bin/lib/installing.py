@@ -9,12 +9,15 @@ from lib import completions, desks, helps, manual, sources, unproved
 DEPLOY = f"{kit.TOP}/deploy"
 HANDBOOKS = ("OPERATORS.md", "BANKS.md", "AUDITORS.md", "audit.sql", "SPECIFICATION.md", "openapi.yaml")
 CLIENTS = f"{kit.TOP}/bin/lib/clients"
+PAGE_FILES, PICTURES = f"{kit.TOP}/console", f"{kit.TOP}/docs/pictures"
 DOC, SHARED = "share/doc/desk", "share/desk"
 UNITS, PROGRAM, PAGE = "lib/systemd/system", "bin/desk", "share/man/man1/desk.1"
-UNIT, BACKUP = f"{UNITS}/desk.service", "bin/desk-backup"
+UNIT, BACKUP, CONSOLE = f"{UNITS}/desk.service", "bin/desk-backup", "bin/desk-console"
 ORIGIN, LISTED = f"{SHARED}/origin.txt", f"{SHARED}/files.txt"
 # files of deploy/ that have the prefix in them, and where they go
-WITH_PREFIX = {f"{UNITS}/{it}": it for it in ("desk.service", "desk-backup.service", "desk-backup.timer")}
+OF_SYSTEMD = ("desk.service", "desk-backup.service", "desk-backup.timer")
+OF_CONSOLES = ("console-nginx.conf", "console-Caddyfile")
+WITH_PREFIX = {**{f"{UNITS}/{it}": it for it in OF_SYSTEMD}, **{f"{SHARED}/{it}": it for it in OF_CONSOLES}}
 USER = "lib/sysusers.d/desk.conf"
 # a file for each shell, and what makes it
 SHELLS = {
@@ -67,13 +70,16 @@ def files(prefix, run):
         USER: read(f"{DEPLOY}/desk.sysusers"),
         **{path: make("desk", program) for path, make in SHELLS.items()},
         **copied(DEPLOY, ("nginx.conf", "Caddyfile"), SHARED),
+        **copied(PAGE_FILES, os.listdir(PAGE_FILES), f"{SHARED}/console"),
         **copied(f"{kit.TOP}/docs", HANDBOOKS, DOC),
         **copied(kit.TOP, ("CHANGELOG.md",), DOC),
         **copied(CLIENTS, os.listdir(CLIENTS), f"{DOC}/clients"),
     }
     backup = with_prefix(read(f"{DEPLOY}/desk-backup"), prefix).encode()
-    found = {PROGRAM: (built, AS_PROGRAM), BACKUP: (backup, AS_PROGRAM)}
+    console = read(f"{kit.TOP}/{CONSOLE}").encode()
+    found = {PROGRAM: (built, AS_PROGRAM), BACKUP: (backup, AS_PROGRAM), CONSOLE: (console, AS_PROGRAM)}
     found |= {path: (text.encode(), AS_TEXT) for path, text in texts.items()}
+    found |= {f"{DOC}/pictures/{it}": (desks.content(f"{PICTURES}/{it}"), AS_TEXT) for it in os.listdir(PICTURES)}
     return found | {LISTED: ("".join(f"{it}\n" for it in sorted([*found, LISTED])).encode(), AS_TEXT)}
 
 

@@ -64,15 +64,15 @@ class Proxy:
     """A proxy, which listens once its `with` has begun and ends with it, over a desk's port. It waits this many seconds
     for a reply of the desk. Texts of its configuration may be edited."""
 
-    NAME, DEPLOYED = None, None
+    NAME, DEPLOYED, CERTIFICATE = None, None, "/etc/desk/certificate"
 
     def __init__(self, folder, to, seconds=desks.SECONDS, edits=None):
         self.folder, self.port, self.process = f"{folder}/{self.NAME}", desks.free_port(), None
         self.certificate, self.key = f"{self.folder}/certificate.pem", f"{self.folder}/certificate.key"
         self.url, self.edits = f"https://127.0.0.1:{self.port}", edits or {}
         self.values = {
-            "/etc/desk/certificate.pem": self.certificate,
-            "/etc/desk/certificate.key": self.key,
+            f"{self.CERTIFICATE}.pem": self.certificate,
+            f"{self.CERTIFICATE}.key": self.key,
             **self.own_values(to, seconds),
         }
 
@@ -217,4 +217,34 @@ class Caddy(Proxy):
         return {**os.environ, **own, **({"DESK_BUFFERS": "buffers"} if self.takes_chunks() else {})}
 
 
+class NginxConsole(Nginx):
+    """nginx with the operator's console over a desk's port."""
+
+    DEPLOYED, CERTIFICATE = "console-nginx.conf", "/etc/desk/operator"
+
+    def own_values(self, to, seconds):
+        return {
+            "127.0.0.1:8443": f"127.0.0.1:{self.port}",
+            "operator.example": "localhost",
+            "@PREFIX@/share/desk": kit.TOP,
+            "http://127.0.0.1:8080": f"http://127.0.0.1:{to}",
+            "proxy_read_timeout 60s;": f"proxy_read_timeout {seconds}s;",
+        }
+
+
+class CaddyConsole(Caddy):
+    """Caddy with the operator's console over a desk's port."""
+
+    DEPLOYED, CERTIFICATE = "console-Caddyfile", "/etc/desk/operator"
+
+    def own_values(self, to, seconds):
+        return {
+            "\noperator.example:8443 {": f"\n{self.url} {{",
+            "@PREFIX@/share/desk": kit.TOP,
+            "127.0.0.1:8080": f"127.0.0.1:{to}",
+            "response_header_timeout 60s": f"response_header_timeout {seconds}s",
+        }
+
+
 ALL = (Nginx, Caddy)
+CONSOLES = (NginxConsole, CaddyConsole)

@@ -69,7 +69,8 @@ LINES = {
     "summed_bits": ("crates/rtgs_soundness/src/soundness.rt", r"^pub fn balances\(.*BTreeMap<Code, i(\d+)>"),
     "resolved_bits": ("crates/rtgs_gridlock/src/fundings.rt", r"^    funds: u(\d+),$"),
     "stored_bits": ("crates/rtgs_money/src/cents.rt", r"^pub struct Cents\(i(\d+)\);$"),
-    "shown_bits": ("crates/rtgs_http_bodies/src/desks/account.rt", r"^fn in_64_bits\(cents: i128\) -> i(\d+)$"),
+    "shown_bits": ("crates/rtgs_http_bodies/src/members.rt", r"^pub\(crate\) fn in_64_bits\(cents: i128\) -> i(\d+)$"),
+    "queues": ("crates/rtgs_http_trials/src/tests/all_queues.rt", r"text\.len\(\) < (\d+)_000\)$"),
     "levels": ("crates/rtgs_http_trials/src/tests/bodies.rt", r"^    let most = nested\(rt.alloc\(\), (\d+)\)\?;$"),
     "smallest_page": ("bin/lib/hostile.py", r"^SIZES = \[(\d+), "),
     "largest_page": ("bin/lib/hostile.py", r"^SIZES = \[.*, (\d+)\]$"),
@@ -81,6 +82,7 @@ LINES = {
     "banks_port": (HANDBOOKS, r"desk serve bank\.desk --port (\d+) "),
     "banks_money": (HANDBOOKS, r"desks\.new_book\(book, keys, (\d+),"),
     "banks_credit": (BANKS, r'"code":"ALFA","credit":(\d+),'),
+    "pause": ("console/polling.js", r"^const PAUSE = (\d+)000, "),
 }
 # the texts of the auditors' queries, of which no other number is compared
 QUERIES = [
@@ -139,6 +141,7 @@ TEXTS = {
         "the book has {participants} participants",
         "the sum of all balances would exceed {total:p}",
         "has no row, or more than {rows} |",
+        "Fewer than {queues},000 bytes |",
         "an order file is longer than {file} bytes",
         "more than {objects} tables, indexes, views and triggers",
         "the run ends with status {misused}, and the reason",
@@ -191,6 +194,7 @@ TEXTS = {
         "holds up all others for {request} seconds",
         "This program makes tables of version {version};",
         "An `import` ends with {done} even if rows were refused",
+        "The page pauses for at least {pause} seconds between two readings;",
     ],
     "docs/BANKS.md": [
         "on port {banks_port}, without a proxy.",

@@ -1,8 +1,10 @@
 """What documents take from the code: tables, each of which stands between two lines of comments, which name it; and the
-version of the program that is being made, which the program itself says (`--version`)."""
+version of the program that is being made, which the program itself says (`--version`); and the refusals in the words of
+the operator's console."""
 import glob
 import importlib.machinery
 import importlib.util
+import json
 import re
 
 import kit
@@ -44,6 +46,20 @@ def sizes():
     return "\n".join(["| what | lines, to two digits |", "|---|---|", *rows])
 
 
+def page_words():
+    """Returns the refusals in the words of `desk explain`, as the operator's console has them."""
+    rows = [(*head.split(), means, what) for head, means, _, what in stated.explanations()]
+    said = [(int(number), {"name": name, "means": means, "todo": what}) for number, name, means, what in rows]
+    return PAGE.format("".join(f"  {number}: {json.dumps(it)},\n" for number, it in said))
+
+
+PAGE = """\
+// The refusals in the words of `desk explain`. `bin/tables` writes this file.
+export const refusals = {{
+{}}};
+"""
+# the files that are written whole, and what makes each
+FILES = {"console/refusals.js": page_words}
 # which documents have which tables, and what makes each
 TABLES = {"docs/OPERATORS.md": {"refusals": refusals}, "docs/AUDITORS.md": {"sizes": sizes}}
 # Which documents say the version, and how: the form of that line, of which the first part stays. A version that was
@@ -59,6 +75,8 @@ VERSIONS = {
 
 def written(name, text):
     """Returns the text of a document with its tables and its version, as they are to be."""
+    if name in FILES:
+        return FILES[name]()
     if name in VERSIONS:
         form, said = VERSIONS[name]
         text = re.sub(form, lambda found: found[1] + said.format(*stated.version()), text, count=1, flags=re.M)
@@ -74,7 +92,7 @@ def written(name, text):
 def differing():
     """Returns for each document whose tables or version differ what it must be."""
     found = {}
-    for name in {**TABLES, **VERSIONS}:
+    for name in {**TABLES, **VERSIONS, **FILES}:
         there = stated.content(f"{kit.TOP}/{name}")
         wanted = written(name, there)
         if wanted != there:

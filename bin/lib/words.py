@@ -11,10 +11,11 @@ from lib import stated
 
 LIST = "CONTRIBUTING.md"
 ROW = re.compile(r'^\| ("[^|]*) \| [^|]+ \|$', re.M)
-# what has the words by its office: their check, what stands in for the kit, and what was found earlier
+# what has the words by its office: their check, what stands in for the kit, what was found earlier, and what the
+# program prints
 LEFT_OUT = re.compile(r"bin/lib/(?:words\.py|tests/test_words\.py|tests/fake_rt\.py)"
-                      r"|kept_books/.*\.txt|evidence/.*\.txt")
-WHOLE = re.compile(r"bin/.*|docs/.*|deploy/.*|\.ci/.*|.*\.md")
+                      r"|kept_books/.*\.txt|evidence/.*\.txt|console/refusals\.js")
+WHOLE = re.compile(r"bin/.*|docs/.*|deploy/.*|console/.*|\.ci/.*|.*\.md")
 COMMENTS = {".rt": re.compile(r"//[^\n]*"), ".antt": re.compile(r"--[^\n]*")}
 
 

@@ -111,7 +111,8 @@ RUNS = [
     f"add @ ZETA Zeta {D} => !12",
 ]
 READINGS = ["account @ ALFA", "accounts @", "queue @ ALFA", "order @ ALFA A-1", "statement @ ALFA 2024-03-04",
-            "report @ 2024-03-04"]
+            "report @ 2024-03-04", "held @ ALFA", "waiting @ ALFA", "queues @", "status @", "orders @ 2024-03-04",
+            "marks @ 2024-03-04"]
 # every command, in words that are well formed
 EACH = [*migrations.OTHERS, "migrate @", "init @"]
 MISUSED = ["", "pay @", "init", "post @ ALFA P-9", "init --unknown", "explain 21", SERVE.format(0),

@@ -25,6 +25,8 @@ MANY = 1000
 # the longest time of a run or a reply: each order of the history has a due date, so that a statement takes long
 SECONDS = 600
 JSON = "\n"
+# what the text of the queues may have, in bytes
+LONGEST = 650_000
 
 
 class Question(typing.NamedTuple):
@@ -68,6 +70,29 @@ def of_report(book, date, marks=None):
     return reading(("report", date), operator("GET", f"/desk/report/{date}"), full.report(book, date, marks))
 
 
+def of_status(book):
+    return reading(("status",), operator("GET", "/desk/status"), full.status(book) + JSON)
+
+
+def of_queues(book):
+    return reading(("queues",), operator("GET", "/desk/queues"), full.queues(book) + JSON)
+
+
+def of_waits(book, code):
+    """Returns what is asked of what waits of a bank, and the operator's questions of the same."""
+    yield reading(("held", code), bank("GET", "/held", code), full.held(book, code) + JSON)
+    yield reading(("held", code), operator("GET", f"/desk/held/{code}"), full.held(book, code) + JSON)
+    yield reading(("waiting", code), bank("GET", "/waiting", code), full.waiting(book, code) + JSON)
+    yield reading(("queue", code), operator("GET", f"/desk/queue/{code}"), full.queue(book, code) + JSON)
+
+
+def of_date(book, date, together=False):
+    """Returns what is asked of the records of a date."""
+    yield reading(("orders", date), operator("GET", f"/desk/orders/{date}"), full.orders_of(book, date))
+    marks = full.marks_of(book, date, together)
+    yield reading(("marks", date), operator("GET", f"/desk/marks/{date}"), marks)
+
+
 def command(words, path, fields, printed, **body):
     """Returns a command of the operator, with the fields of its request and those of its reply."""
     return Question(words, printed + "\n", operator("POST", path, json.dumps(fields)), full.compact(body))
@@ -106,8 +131,21 @@ def gridlock(folder):
     again = batch(folder, [f"A-1,{CODES[1]},1", f"Q-2,{CODES[1]},1"],
                   ["A-1,repeated,1,settled", f"Q-2,queued,{ALL + 1},1"])
     yield book
-    yield [of_queue(book, ONE), of_queue(book, LAST), full_queue, *resolved(1, ALL), of_order(after.orders[-1]),
-           of_statement(after, LAST, FIRST), of_report(after, FIRST, 1), again]
+    yield [of_queue(book, ONE), of_queue(book, LAST), of_status(book), of_queues(book), *of_waits(book, ONE),
+           full_queue, *resolved(1, ALL), of_order(after.orders[-1]), of_statement(after, LAST, FIRST),
+           of_report(after, FIRST, 1), of_queues(after), *of_date(after, FIRST, together=True), again]
+
+
+def crossed(_folder):
+    """Each waits for all others: the longest text of the queues."""
+    book = full.Book(FIRST, full.OPEN, full.crossed(ALL, date=FIRST), [])
+    queues = of_queues(book)
+    # (one for each receiver of a bank, and one for its first order)
+    receivers = full.BANKS * (1 + min(ALL // full.BANKS, full.BANKS - 1))
+    if (queues.body.count('"to":'), len(queues.body) < LONGEST) != (receivers, True):
+        raise desks.Broken(f"the text of the queues has {len(queues.body)} bytes")
+    yield book
+    yield [queues, of_status(book), of_queue(book, ONE), *of_waits(book, LAST)]
 
 
 def let_in(_folder):
@@ -118,8 +156,9 @@ def let_in(_folder):
     opened = command(("open", SECOND, "--automatic"), "/desk/open", {"automatic": True, "date": SECOND},
                      f"opened\nauto mark 1 count {ALL} value {ALL}", answer="opened", auto=auto)
     yield book
-    yield [of_order(book.orders[0]), of_statement(book, ONE, SECOND), opened, of_order(after.orders[0]),
-           of_queue(after, ONE), of_statement(after, ONE, SECOND), of_report(after, SECOND, 1)]
+    yield [of_status(book), *of_waits(book, LAST), of_order(book.orders[0]), of_statement(book, ONE, SECOND), opened,
+           of_order(after.orders[0]), of_queue(after, ONE), of_statement(after, ONE, SECOND),
+           of_report(after, SECOND, 1), *of_date(after, SECOND, together=True)]
 
 
 def rejected(_folder):
@@ -134,7 +173,7 @@ def rejected(_folder):
             command(("close", FIRST), "/desk/close", date, said, answer="closed", rejected=ALL)]
     yield book
     yield [of_statement(book, ONE, FIRST), *ends, of_order(after.orders[0]), of_order(after.orders[1]),
-           of_queue(after, LAST), of_statement(after, ONE, FIRST), of_report(after, FIRST)]
+           of_queue(after, LAST), of_statement(after, ONE, FIRST), of_report(after, FIRST), *of_date(after, FIRST)]
 
 
 def history(folder):
@@ -153,10 +192,11 @@ def history(folder):
                        number=ROWS)
     yield book
     yield [of_order(orders[0]), of_order(orders[-1]), of_statement(book, ONE, FIRST), of_statement(book, LAST, SECOND),
-           of_report(book, FIRST), of_report(book, SECOND), new, posted, repeated]
+           of_report(book, FIRST), of_report(book, SECOND), *of_date(book, FIRST), *of_date(book, SECOND), new, posted,
+           repeated]
 
 
-BOOKS = (gridlock, let_in, rejected, history)
+BOOKS = (gridlock, crossed, let_in, rejected, history)
 
 
 def shown(text):

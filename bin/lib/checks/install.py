@@ -72,8 +72,8 @@ def completions(prefix, folder, sees):
 def units(prefix, sees):
     """systemd finds no fault with the units, whose programs and man page are the installed ones."""
     env = {**os.environ, "MANPATH": f"{prefix}/share/man"}
-    for it in installing.WITH_PREFIX:
-        verified = run_tool("systemd-analyze", "verify", f"{prefix}/{it}", env=env)
+    for it in installing.OF_SYSTEMD:
+        verified = run_tool("systemd-analyze", "verify", f"{prefix}/{installing.UNITS}/{it}", env=env)
         sees(f"systemd-analyze verify {it}", verified, (0, ""))
     if shutil.which("systemd-sysusers"):
         made = run_tool("systemd-sysusers", "--dry-run", f"{prefix}/{installing.USER}")

@@ -34,7 +34,8 @@ SINCE = {"due dates": 2}
 OTHERS = [f"add @ DELTA Delta {'d' * 32}", "credit @ ALFA 1", "post @ ALFA P-9 1", "open @ 2024-03-06",
           "open @ 2024-03-06 --automatic", "import @ ALFA A-9,BETA,1", "resolve @", "cutoff @ 2024-03-05",
           "close @ 2024-03-05", "withdraw @ ALFA A-4", "account @ ALFA", "accounts @", "queue @ ALFA",
-          "order @ ALFA A-1", "statement @ ALFA 2024-03-04", "report @ 2024-03-04",
+          "order @ ALFA A-1", "statement @ ALFA 2024-03-04", "report @ 2024-03-04", "held @ ALFA", "waiting @ ALFA",
+          "queues @", "status @", "orders @ 2024-03-04", "marks @ 2024-03-04",
           f"serve @ --port 1 --count 1 --operator-key {'f' * 32}"]
 TOLD = [*[f"report @ {day}" for day in DAYS], *[f"statement @ {code} {day}" for code in KEYS for day in DAYS],
         *[f"{reading} @ {code}" for code in KEYS for reading in ("account", "queue")],

@@ -112,14 +112,16 @@ class Groups(unittest.TestCase):
     def test_what_lacks_a_tool_is_left_out_and_named(self):
         status, lines, ran = self.run_main("all", "--no-evidence", without=["node", "nginx", "cc"])
         self.assertEqual(status, 0)
-        left = {"clients", "proxy", "limits", "creations", "refusals", "power-cuts", "faulty-disks", "plants"}
+        left = {"clients", "proxy", "console", "limits", "creations", "refusals", "power-cuts", "faulty-disks",
+                "plants"}
         self.assertEqual({it[0] for it in ran}, set(checks.NAMES) - left)
         self.assertEqual([it for it in lines if "left out" in it], [
+            "served, how often the resolver is asked: left out, since there is no cc",
             "edges, lack of memory: left out, since there is no cc", "creations: left out, since there is no cc",
             "refusals: left out, since there is no cc", "power-cuts: left out, since there is no cc",
             "faulty-disks: left out, since there is no cc",
             "clients: left out, since there is no node", "proxy: left out, since there is no nginx",
-            "limits: left out, since there is no nginx"])
+            "console: left out, since there is no nginx", "limits: left out, since there is no nginx"])
 
     def test_no_gate_is_passed_without_what_promises_rest_on(self):
         for name in checks.PROMISED:
@@ -131,8 +133,9 @@ class Groups(unittest.TestCase):
                 self.assertEqual(self.run_main("gate", "--tools"), (0, [], []))
 
     def test_the_tools_of_a_group_are_told_and_nothing_runs(self):
-        line = "edges, lack of memory: left out, since there is no cc"
-        self.assertEqual(self.run_main("gate", "--tools", without=["cc"]), (0, [line], []))
+        lines = [f"{it}: left out, since there is no cc"
+                 for it in ("served, how often the resolver is asked", "edges, lack of memory")]
+        self.assertEqual(self.run_main("gate", "--tools", without=["cc"]), (0, lines, []))
 
     def test_ci_says_first_what_it_leaves_out_and_then_runs_the_group(self):
         with open(f"{kit.TOP}/.ci/run", encoding="utf-8") as it:

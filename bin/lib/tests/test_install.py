@@ -297,6 +297,15 @@ class Installing(unittest.TestCase):
         self.assertNotIn("@PREFIX@", unit)
         self.assertRaises(desks.Broken, installing.with_prefix, "@PREFIX@", "/a b")
 
+    def test_the_console_has_its_page_and_the_sites_name_its_folder(self):
+        self.installed()
+        page = sorted(os.listdir(f"{self.prefix}/share/desk/console"))
+        self.assertEqual(page, sorted(os.listdir(f"{kit.TOP}/console")))
+        for name, line in zip(installing.OF_CONSOLES, ("root {}/share/desk;", "root * {}/share/desk")):
+            text = desks.content(f"{self.prefix}/{installing.SHARED}/{name}").decode()
+            self.assertIn(line.format(self.prefix), text)
+            self.assertNotIn("@PREFIX@", text)
+
     def modes(self, text):
         def makes(path):
             with open(path, "w", encoding="utf-8"):
@@ -326,8 +335,8 @@ class Installing(unittest.TestCase):
         self.installed()
         os.chmod(f"{self.prefix}/bin/desk", 0o755)
         os.chmod(f"{self.prefix}/{installing.BACKUP}", 0o755)
-        for it in installing.WITH_PREFIX:
-            said = install.run_tool("systemd-analyze", "verify", "--man=no", f"{self.prefix}/{it}")
+        for it in installing.OF_SYSTEMD:
+            said = install.run_tool("systemd-analyze", "verify", "--man=no", f"{self.prefix}/{installing.UNITS}/{it}")
             self.assertEqual(said, (0, ""), it)
 
     def test_the_user_of_the_units_is_the_one_that_is_made(self):
@@ -363,9 +372,12 @@ class Deployed(unittest.TestCase):
         self.assertEqual(self.reasons("nginx.conf", r"\}|(server|location) .*\{|default_type .*|return .*"), [])
         ends = r"\}|.*\{|max_size .*|max_buffer_size .*|header .*|respond .*|import way"
         self.assertEqual(self.reasons("Caddyfile", ends), [])
+        self.assertEqual(self.reasons("console-Caddyfile", ends), [])
+        ends = r"\}|(server|location|types) .*\{|default_type .*|return .*|(text|image)/.*;"
+        self.assertEqual(self.reasons("console-nginx.conf", ends), [])
 
     def test_braces_are_balanced(self):
-        for name in ("nginx.conf", "Caddyfile"):
+        for name in ("nginx.conf", "Caddyfile", "console-nginx.conf", "console-Caddyfile"):
             whole = desks.content(f"{kit.TOP}/deploy/{name}").decode()
             text = re.sub(r"^\s*#.*$|'[^']*'|`[^`]*`", "", whole, flags=re.M)
             self.assertEqual(text.count("{"), text.count("}"), name)

@@ -94,7 +94,7 @@ class OpenApi(unittest.TestCase):
         self.assertTrue(description.faults(posting, schemas["NewPosting"]))
 
     def test_a_refusal_of_another_status_or_that_is_missing_is_found(self):
-        self.assertEqual(len(self.found(openapi.refusals, ("17 NotQueued", "9 UnknownOrder"))), 3)
+        self.assertEqual(len(self.found(openapi.refusals, ("18 Resolvable", "9 UnknownOrder"))), 3)
         self.assertEqual(len(self.found(openapi.refusals, ("13 TotalTooLarge", "13 NoCover"))), 1)
 
     def test_a_request_and_its_reply_are_made_of_an_example(self):

@@ -26,9 +26,9 @@ class Help(Scripts):
 
     def test_each_check_has_help_that_starts_nothing(self):
         listed = [it.split()[0] for it in self.run_script("checks", "--list").stdout.splitlines()]
-        wanted = ("asserted backups clients copies creations documents edges faulty-disks full-books handbooks "
-                  "hostile-files install kept-books kills limits migrations openapi plants power-cuts proxy "
-                  "random-days refusals served")
+        wanted = ("asserted backups clients console copies creations documents edges faulty-disks full-books "
+                  "handbooks hostile-files install kept-books kills limits migrations openapi operator-days plants "
+                  "power-cuts proxy random-days refusals served")
         self.assertEqual(sorted(listed), wanted.split())
         for name in listed:
             self.assertIn("--no-evidence", self.run_script("checks", name, "--help").stdout)

@@ -4,7 +4,7 @@ ghost use Rattle.rtgs_http_requests.specs.declared.feeds.limits.TheConstants.{LO
 
 use anyhow::{Result, ensure};
 use rtgs_http_requests::feeds::limits::LONGEST_BODY;
-use rtgs_http_requests::{Admitted, BankRoute, BodyFeed, read_asked};
+use rtgs_http_requests::{Admitted, BankRoute, BodyFeed, Parameters, read_asked};
 use rtgs_money::Code;
 use std::alloc::{AllocError, Global};
 use std::time::{Duration, Instant};
@@ -155,5 +155,5 @@ fn judged_in_bytes(alloc: Global, route: BankRoute, body: &[u8]) -> Result<bool>
 fn is_good(alloc: Global, route: BankRoute, body: &[u8]) -> Result<bool> {
     let caller = Code::read(b"ALFA")?;
     let admitted = Admitted::Bank { route, caller };
-    Ok(read_asked(alloc, admitted, "", body).is_ok())
+    Ok(read_asked(alloc, admitted, Parameters::NONE, body).is_ok())
 }

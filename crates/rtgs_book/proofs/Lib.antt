@@ -8,3 +8,4 @@ pub mod Lists
 pub mod Magnitudes
 pub mod Settling
 pub mod Unknown
+pub mod Waiting

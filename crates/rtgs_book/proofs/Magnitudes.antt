@@ -55,12 +55,17 @@ low_floor book code h = by (is_closed book.day.phase) _ (small_limit code book.p
     by true n few = omega (arith, ints)
     by false n few = omega (arith, ints)
 
+-- the floors of a sound book, as a bound on its balances
+above_limits : (book : Book) → IsSound book → Fits book
+    → AllByRecursion (λ code. neg_ℤ (pos Credit.MAX) ≤ℤ balance book code) (codes_of book)
+above_limits book h fits = all_weaker (λ code. floor book code ≤ℤ balance book code)
+    (λ code. neg_ℤ (pos Credit.MAX) ≤ℤ balance book code)
+    (λ code k. let low = low_floor book code fits in omega (arith, ints)) (codes_of book) h.floors
+
 pub balances_small : (book : Book) → IsSound book → Fits book → BalancesFit book
 unfolding total
 balances_small book h fits =
-    let floors = all_weaker (λ code. floor book code ≤ℤ balance book code)
-    (λ code. neg_ℤ (pos Credit.MAX) ≤ℤ balance book code)
-    (λ code k. let low = low_floor book code fits in omega (arith, ints)) (codes_of book) h.floors in
+    let floors = above_limits book h fits in
     let terms = high_terms (balance book) Credit.MAX (codes_of book) floors in
     let few = h.codes_rise.1 in
     let all = h.total_fits in
@@ -68,3 +73,11 @@ balances_small book h fits =
     (λ code. (balance book code +ℤ pos Credit.MAX) ≤ℤ (int_sum_by (balance book) (codes_of book) +ℤ pos
     (length (codes_of book) * Credit.MAX))) (λ code. Within LARGEST_BALANCE (balance book code))
     (λ code low high. (omega (arith, ints), omega (arith, ints))) (codes_of book) floors terms.1
+
+pub total_small : (book : Book) → IsSound book → Fits book → Within LARGEST_BALANCE (total book)
+unfolding total
+total_small book h fits =
+    let low = (high_terms (balance book) Credit.MAX (codes_of book) (above_limits book h fits)).0 in
+    let few = h.codes_rise.1 in
+    let high = h.total_fits in
+    (omega (arith, ints), omega (arith, ints))

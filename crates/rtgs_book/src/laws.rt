@@ -1,13 +1,14 @@
 //! Laws of a book, whatever commands led to it. Each function does nothing: its contract is the law.
 ghost use Rattle.std.specs.Prelude.{◌≡◌, ◌+ℤ◌, ◌≤ℤ◌, pos, Bool, true, false, if◌then◌else◌, ℕ, List, [], ◌∷◌, ◌++◌};
-ghost use Rattle.std.specs.Prelude.{filter, take, drop};
+ghost use Rattle.std.specs.Prelude.{◌≤◌, length, filter, take, drop};
 ghost use Rattle.std.specs.List.{AllByRecursion};
 ghost use Rattle.rtgs_book.specs.declared.book.Book.{Book};
 ghost use Rattle.rtgs_book.specs.declared.order.Order.{Order};
 ghost use Rattle.rtgs_book.specs.declared.order_state.OrderState.{OrderState};
 ghost use Rattle.rtgs_book.specs.declared.posting.Posting.{Posting};
+ghost use Rattle.rtgs_book.specs.declared.limits.TheConstants.{LARGEST_BALANCE, MOST_QUEUED};
 ghost use Rattle.std.specs.Str.{bytes_eq};
-ghost use Rattle.rtgs_book.specs.Books.{is_queued, is_settled, is_settled_state, new_book};
+ghost use Rattle.rtgs_book.specs.Books.{is_queued, is_settled, is_settled_state, is_waiting, new_book};
 ghost use Rattle.rtgs_book.specs.Commands.{let_in, with_state};
 ghost use Rattle.rtgs_book.specs.IntSum.{int_sum_by};
 ghost use Rattle.rtgs_book.specs.Lookup.{codes_of, is_participant};
@@ -16,6 +17,7 @@ ghost use Rattle.rtgs_book.specs.Procedure.{Reaches};
 ghost use Rattle.rtgs_book.specs.Queue.{queue};
 ghost use Rattle.rtgs_book.specs.Balance.{balance, floor, gain, total, issued};
 ghost use Rattle.rtgs_book.specs.Settle.{settle};
+ghost use Rattle.rtgs_book.specs.Totals.{Within};
 ghost use Rattle.rtgs_book.specs.Ranges.{Fits};
 ghost use Rattle.rtgs_book.specs.Choice.{Choice, nothing_chosen, larger, is_chosen, chosen, balance_after, IsFeasible};
 ghost use Rattle.rtgs_book.specs.Choice.{IsGreatest};
@@ -80,6 +82,16 @@ pub fn settled_balances()
 /// In a sound book with amounts in their ranges no balance is large: each fits 64 bits with a sign.
 pub fn balances_are_small()
     ensures { (book : Book) → IsSound book → Fits book → BalancesFit book }
+{}
+
+/// So it is with all balances together.
+pub fn total_is_small()
+    ensures { (book : Book) → IsSound book → Fits book → Within LARGEST_BALANCE (total book) }
+{}
+
+/// In a sound book no more orders are queued or held than all participants may have together.
+pub fn few_orders_wait()
+    ensures { (book : Book) → IsSound book → length (filter is_waiting book.orders) ≤ MOST_QUEUED }
 {}
 
 /// A posting moves the balance of its account by its cents, and no other.

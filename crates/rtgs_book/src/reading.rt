@@ -17,7 +17,19 @@ pub enum Reading {
     Accounts,
     /// The queue of a participant.
     Queue { code: Code },
+    /// The orders of a participant that are held until their due dates.
+    Held { code: Code },
+    /// Why the first order of a participant waits.
+    Waiting { code: Code },
+    /// The queues of all participants, and what a resolution would settle of each.
+    Queues,
+    /// How the desk stands: its day, what waits in all, and which numbers come next.
+    Status,
     /// The statement of a participant for a date.
     Statement { code: Code, date: BusinessDate },
     Report { date: BusinessDate },
+    /// Each order of a date.
+    Orders { date: BusinessDate },
+    /// Each mark of a date.
+    Marks { date: BusinessDate },
 }

@@ -10,6 +10,8 @@ use Rattle.rtgs_cli_arguments.specs.declared.requests.command_words.CommandWords
 use Rattle.rtgs_cli_arguments.specs.declared.requests.reading_words.ReadingWords.{ReadingWords}
 use Rattle.rtgs_cli_arguments.specs.declared.requests.reading_words.ReadingWords.TheVariants.{Order, Account, Accounts}
 use Rattle.rtgs_cli_arguments.specs.declared.requests.reading_words.ReadingWords.TheVariants.{Queue, Statement, Report}
+use Rattle.rtgs_cli_arguments.specs.declared.requests.reading_words.ReadingWords.TheVariants.{Held, Waiting, Queues}
+use Rattle.rtgs_cli_arguments.specs.declared.requests.reading_words.ReadingWords.TheVariants.{Status, Orders, Marks}
 use Rattle.rtgs_cli_arguments.specs.declared.requests.request.Request.TheVariants.{Make, Migrate, Submit, Import, Read}
 use Rattle.rtgs_cli_arguments.specs.declared.requests.request.Request.TheVariants.{Serve}
 use Rattle.rtgs_cli_arguments.specs.requests.Requests.{Words}
@@ -33,9 +35,15 @@ no_reading : (given : List Row) (reading : ReadingWords) → ¬ AreWordsOfReadin
 no_reading given (Account code) asked = differ _ (codes "account") refl asked.0
 no_reading given Accounts asked = differ _ (codes "accounts") refl asked
 no_reading given (Queue code) asked = differ _ (codes "queue") refl asked.0
+no_reading given (Held code) asked = differ _ (codes "held") refl asked.0
+no_reading given (Waiting code) asked = differ _ (codes "waiting") refl asked.0
+no_reading given Queues asked = differ _ (codes "queues") refl asked
+no_reading given Status asked = differ _ (codes "status") refl asked
 no_reading given (Order code reference) asked = differ _ (codes "order") refl asked.0
 no_reading given (Statement code date) asked = differ _ (codes "statement") refl asked.0
 no_reading given (Report date) asked = differ _ (codes "report") refl asked.0
+no_reading given (Orders date) asked = differ _ (codes "orders") refl asked.0
+no_reading given (Marks date) asked = differ _ (codes "marks") refl asked.0
 
 -- without its port, or how many connections it serves, no server is asked for
 pub no_server : (given : List Row)

@@ -88,6 +88,9 @@ cut_off = subcommand (codes "cutoff") (word (codes "date") ∷ [])
 abbrev pub close_day : Shape
 close_day = subcommand (codes "close") (word (codes "date") ∷ [])
 
+abbrev pub status : Shape
+status = subcommand (codes "status") []
+
 abbrev pub account : Shape
 account = subcommand (codes "account") (word (codes "code") ∷ [])
 
@@ -97,6 +100,15 @@ accounts = subcommand (codes "accounts") []
 abbrev pub queue : Shape
 queue = subcommand (codes "queue") (word (codes "code") ∷ [])
 
+abbrev pub queues : Shape
+queues = subcommand (codes "queues") []
+
+abbrev pub waiting : Shape
+waiting = subcommand (codes "waiting") (word (codes "code") ∷ [])
+
+abbrev pub held : Shape
+held = subcommand (codes "held") (word (codes "code") ∷ [])
+
 abbrev pub order : Shape
 order = subcommand (codes "order") (word (codes "code") ∷ word (codes "reference") ∷ [])
 
@@ -105,6 +117,12 @@ statement = subcommand (codes "statement") (word (codes "code") ∷ word (codes 
 
 abbrev pub report : Shape
 report = subcommand (codes "report") (word (codes "date") ∷ [])
+
+abbrev pub orders : Shape
+orders = subcommand (codes "orders") (word (codes "date") ∷ [])
+
+abbrev pub marks : Shape
+marks = subcommand (codes "marks") (word (codes "date") ∷ [])
 
 abbrev pub serve : Shape
 serve = subcommand (codes "serve") (port ∷ count ∷ named (word (codes "operator-key")) ∷ [])
@@ -120,7 +138,10 @@ abbrev pub of_days : List Shape
 of_days = open_day ∷ import_orders ∷ withdraw ∷ resolve ∷ cut_off ∷ close_day ∷ []
 
 abbrev pub of_readings : List Shape
-of_readings = account ∷ accounts ∷ queue ∷ order ∷ statement ∷ report ∷ serve ∷ explain ∷ []
+of_readings = status ∷ account ∷ accounts ∷ queue ∷ queues ∷ waiting ∷ held ∷ order ∷ []
+
+abbrev pub of_dates : List Shape
+of_dates = statement ∷ report ∷ orders ∷ marks ∷ []
 
 -- the program itself: it has a version, one of its subcommands has to be given, and its own name is none of its words
 abbrev pub program : Shape
@@ -132,7 +153,7 @@ desk_with subcommands = record { top = record program { is_leaf = false }; subs 
 
 -- the whole command line
 abbrev pub desk : App
-desk = desk_with (of_participants ++ of_days ++ of_readings)
+desk = desk_with (of_participants ++ of_days ++ of_readings ++ of_dates ++ serve ∷ explain ∷ [])
 
 -- the command is so described, and hands no argument of its own down to subcommands
 abbrev pub IsLine : App → Command → Type 0

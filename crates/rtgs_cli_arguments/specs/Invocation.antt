@@ -14,6 +14,8 @@ use Rattle.rtgs_cli_arguments.specs.declared.requests.command_words.CommandWords
 use Rattle.rtgs_cli_arguments.specs.declared.requests.reading_words.ReadingWords.{ReadingWords}
 use Rattle.rtgs_cli_arguments.specs.declared.requests.reading_words.ReadingWords.TheVariants.{Order, Account, Accounts}
 use Rattle.rtgs_cli_arguments.specs.declared.requests.reading_words.ReadingWords.TheVariants.{Queue, Statement, Report}
+use Rattle.rtgs_cli_arguments.specs.declared.requests.reading_words.ReadingWords.TheVariants.{Held, Waiting, Queues}
+use Rattle.rtgs_cli_arguments.specs.declared.requests.reading_words.ReadingWords.TheVariants.{Status, Orders, Marks}
 use Rattle.rtgs_cli_arguments.specs.declared.requests.request.Request.TheVariants.{Make, Migrate, Submit, Import, Read}
 use Rattle.rtgs_cli_arguments.specs.declared.requests.request.Request.TheVariants.{Serve}
 use Rattle.rtgs_cli_arguments.specs.requests.Requests.{Words}
@@ -56,11 +58,17 @@ abbrev pub AreWordsOfReading : Text → List Row → ReadingWords → Type 0
 AreWordsOfReading called given (Account code) = (called ≡ codes "account") × IsWord given (codes "code") code
 AreWordsOfReading called given Accounts = called ≡ codes "accounts"
 AreWordsOfReading called given (Queue code) = (called ≡ codes "queue") × IsWord given (codes "code") code
+AreWordsOfReading called given (Held code) = (called ≡ codes "held") × IsWord given (codes "code") code
+AreWordsOfReading called given (Waiting code) = (called ≡ codes "waiting") × IsWord given (codes "code") code
+AreWordsOfReading called given Queues = called ≡ codes "queues"
+AreWordsOfReading called given Status = called ≡ codes "status"
 AreWordsOfReading called given (Order code reference) = (called ≡ codes "order") × IsWord given (codes "code") code
     × IsWord given (codes "reference") reference
 AreWordsOfReading called given (Statement code date) = (called ≡ codes "statement") × IsWord given (codes "code") code
     × IsWord given (codes "date") date
 AreWordsOfReading called given (Report date) = (called ≡ codes "report") × IsWord given (codes "date") date
+AreWordsOfReading called given (Orders date) = (called ≡ codes "orders") × IsWord given (codes "date") date
+AreWordsOfReading called given (Marks date) = (called ≡ codes "marks") × IsWord given (codes "date") date
 
 -- the words of a run, by the name of its subcommand
 abbrev pub AreWordsOfRun : Text → List Row → Words → Type 0

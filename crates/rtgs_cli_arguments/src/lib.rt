@@ -14,6 +14,7 @@ use clap::{ArgMatches, Command, Error};
 use std::alloc::{AllocError, Global};
 
 mod accounts;
+mod dated_readings;
 mod days;
 mod invocation;
 mod orders;
@@ -100,16 +101,31 @@ fn with_days<'a>(alloc: Global) -> Result<Command<'a>, AllocError>
     joined(desk, days::close_command(alloc))
 }
 
+/// The command line of the desk, with the readings that name no date too.
+fn with_readings<'a>(alloc: Global) -> Result<Command<'a>, AllocError>
+    ensures { IfOk result (line.IsLine (line.desk_with (line.of_participants ++ line.of_days ++ line.of_readings))) }
+{
+    let desk = joined(with_days(alloc), readings::status_command(alloc));
+    let desk = joined(desk, readings::account_command(alloc));
+    let desk = joined(desk, readings::accounts_command(alloc));
+    let desk = joined(desk, readings::queue_command(alloc));
+    let desk = joined(desk, readings::queues_command(alloc));
+    let desk = joined(desk, readings::waiting_command(alloc));
+    let desk = joined(desk, readings::held_command(alloc));
+    joined(desk, readings::order_command(alloc))
+}
+
 /// The command line of the desk, with all its subcommands.
 fn desk_command<'a>(alloc: Global) -> Result<Command<'a>, AllocError>
     ensures { IfOk result (line.IsLine line.desk) }
 {
-    let desk = joined(with_days(alloc), readings::account_command(alloc));
-    let desk = joined(desk, readings::accounts_command(alloc));
-    let desk = joined(desk, readings::queue_command(alloc));
-    let desk = joined(desk, readings::order_command(alloc));
-    let desk = joined(desk, readings::statement_command(alloc));
-    let desk = joined(desk, readings::report_command(alloc));
+    let desk = joined(
+        with_readings(alloc),
+        dated_readings::statement_command(alloc),
+    );
+    let desk = joined(desk, dated_readings::report_command(alloc));
+    let desk = joined(desk, dated_readings::orders_command(alloc));
+    let desk = joined(desk, dated_readings::marks_command(alloc));
     let desk = joined(desk, serving::serve_command(alloc));
     joined(desk, refusals::explain_command(alloc))
 }
@@ -155,12 +171,18 @@ fn reading_words<'a>(name: &str, given: &ArgMatches<'a>) -> Option<ReadingWords<
     ensures { IsChosen (AreWordsOfReading name.now (rows_of (found_of given.now))) result }
 {
     match name {
+        "status" => Some(ReadingWords::Status),
         "account" => Some(readings::account_words(given)),
         "accounts" => Some(ReadingWords::Accounts),
         "queue" => Some(readings::queue_words(given)),
+        "queues" => Some(ReadingWords::Queues),
+        "waiting" => Some(readings::waiting_words(given)),
+        "held" => Some(readings::held_words(given)),
         "order" => Some(readings::order_words(given)),
-        "statement" => Some(readings::statement_words(given)),
-        "report" => Some(readings::report_words(given)),
+        "statement" => Some(dated_readings::statement_words(given)),
+        "report" => Some(dated_readings::report_words(given)),
+        "orders" => Some(dated_readings::orders_words(given)),
+        "marks" => Some(dated_readings::marks_words(given)),
         _ => None,
     }
 }

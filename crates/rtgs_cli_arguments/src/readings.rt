@@ -1,11 +1,11 @@
-//! What the desk tells, as the command line names it.
+//! What the desk shows without a date, as the command line names it.
 ghost use Rattle.std.specs.Prelude.{IfOk, ◌∷◌, [], codes};
 ghost use Rattle.clap.specs.Words.{found_of, rows_of};
 ghost use Rattle.rtgs_cli_arguments.specs.Invocation.{AreWordsOfReading};
 ghost use Rattle.rtgs_cli_arguments.specs.CommandLine as line;
 
 use crate::requests::ReadingWords;
-use crate::subcommand::{book_command, with_code, with_date, with_reference};
+use crate::subcommand::{book_command, with_code, with_reference};
 use crate::word;
 use clap::{ArgMatches, Command};
 use std::alloc::{AllocError, Global};
@@ -19,6 +19,14 @@ fn participant_command<'a>(
     ensures { IfOk result (line.IsSubcommand (line.subcommand name.now (line.word (codes "code") ∷ []))) }
 {
     with_code(alloc, book_command(alloc, name, about))
+}
+
+/// The subcommand that shows how the desk stands: a book's file alone.
+pub fn status_command<'a>(alloc: Global) -> Result<Command<'a>, AllocError>
+    ensures { IfOk result (line.IsSubcommand line.status) }
+{
+    let about = "Shows the day, what waits in all and the numbers that come next, as JSON";
+    book_command(alloc, "status", about)
 }
 
 /// The subcommand that shows an account: a book's file and a participant.
@@ -68,6 +76,48 @@ pub fn queue_words<'a>(given: &ArgMatches<'a>) -> ReadingWords<'a>
     }
 }
 
+/// The subcommand that shows all queues: a book's file alone.
+pub fn queues_command<'a>(alloc: Global) -> Result<Command<'a>, AllocError>
+    ensures { IfOk result (line.IsSubcommand line.queues) }
+{
+    let about = "Shows all queues and what a resolution would settle of each, as JSON";
+    book_command(alloc, "queues", about)
+}
+
+/// The subcommand that shows what the first order of a queue waits for: a book's file and a participant.
+pub fn waiting_command<'a>(alloc: Global) -> Result<Command<'a>, AllocError>
+    ensures { IfOk result (line.IsSubcommand line.waiting) }
+{
+    let about = "Shows what a participant's first queued order lacks, as JSON";
+    participant_command(alloc, "waiting", about)
+}
+
+/// The participant whose first order waits, as it was given.
+pub fn waiting_words<'a>(given: &ArgMatches<'a>) -> ReadingWords<'a>
+    ensures { AreWordsOfReading (codes "waiting") (rows_of (found_of given.now)) result }
+{
+    ReadingWords::Waiting {
+        code: word(given, "code"),
+    }
+}
+
+/// The subcommand that shows the orders that are held until their due dates: a book's file and a participant.
+pub fn held_command<'a>(alloc: Global) -> Result<Command<'a>, AllocError>
+    ensures { IfOk result (line.IsSubcommand line.held) }
+{
+    let about = "Shows a participant's orders that are held until their due dates, as JSON";
+    participant_command(alloc, "held", about)
+}
+
+/// The participant whose orders are held, as it was given.
+pub fn held_words<'a>(given: &ArgMatches<'a>) -> ReadingWords<'a>
+    ensures { AreWordsOfReading (codes "held") (rows_of (found_of given.now)) result }
+{
+    ReadingWords::Held {
+        code: word(given, "code"),
+    }
+}
+
 /// The subcommand that shows an order: a book's file, its sender and its reference.
 pub fn order_command<'a>(alloc: Global) -> Result<Command<'a>, AllocError>
     ensures { IfOk result (line.IsSubcommand line.order) }
@@ -83,44 +133,5 @@ pub fn order_words<'a>(given: &ArgMatches<'a>) -> ReadingWords<'a>
     ReadingWords::Order {
         code: word(given, "code"),
         reference: word(given, "reference"),
-    }
-}
-
-/// The subcommand that shows a participant's day: a book's file, a participant and a date.
-pub fn statement_command<'a>(alloc: Global) -> Result<Command<'a>, AllocError>
-    ensures { IfOk result (line.IsSubcommand line.statement) }
-{
-    let statement = participant_command(alloc, "statement", "Shows a participant's business day");
-    with_date(alloc, statement)
-}
-
-/// The participant and the date of a statement, as they were given.
-pub fn statement_words<'a>(given: &ArgMatches<'a>) -> ReadingWords<'a>
-    ensures { AreWordsOfReading (codes "statement") (rows_of (found_of given.now)) result }
-{
-    ReadingWords::Statement {
-        code: word(given, "code"),
-        date: word(given, "date"),
-    }
-}
-
-/// The subcommand that shows the day of all participants: a book's file and a date.
-pub fn report_command<'a>(alloc: Global) -> Result<Command<'a>, AllocError>
-    ensures { IfOk result (line.IsSubcommand line.report) }
-{
-    let report = book_command(
-        alloc,
-        "report",
-        "Shows the business day of all participants",
-    );
-    with_date(alloc, report)
-}
-
-/// The date of a report, as it was given.
-pub fn report_words<'a>(given: &ArgMatches<'a>) -> ReadingWords<'a>
-    ensures { AreWordsOfReading (codes "report") (rows_of (found_of given.now)) result }
-{
-    ReadingWords::Report {
-        date: word(given, "date"),
     }
 }

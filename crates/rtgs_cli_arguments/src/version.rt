@@ -3,4 +3,4 @@
 /// What `--version` says behind the program's name: its version, that of the tables that it keeps a book in, the kit
 /// that it is proved with, as `rt version` prints it, and the commit of its sources, which `git archive` writes here.
 pub(crate) const VERSION: &str =
-    "0.13.0, tables 3, rattle-kit-13f logic dac8208d650f15bf, commit $Format:%H$";
+    "0.14.0, tables 3, rattle-kit-13b logic dac8208d650f15bf, commit $Format:%H$";

@@ -4,6 +4,12 @@
 
 pub mod batches;
 mod desk;
+mod held;
+pub mod laws;
+mod payments;
+pub mod queue_laws;
+mod queues;
+mod tallies;
 mod value;
 
 pub use crate::batches::submit_batch;

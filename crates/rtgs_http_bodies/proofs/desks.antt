@@ -1,4 +1,6 @@
 pub mod Leaving
 mod NoFloat
+mod QueueSums
 mod QueueValues
+mod WaitingValues
 pub mod Writing

@@ -16,11 +16,12 @@ mod text;
 pub use crate::answered::answer_reply;
 pub use crate::batch::batch_reply;
 pub use crate::desks::{
-    account_reply, account_text, accounts_reply, accounts_text, report_text, statement_text,
-    text_of, write_report, write_statement,
+    account_reply, account_text, accounts_reply, accounts_text, held_reply, held_text, marks_text,
+    orders_text, queues_reply, queues_text, report_text, statement_text, status_reply, status_text,
+    text_of, waiting_reply, waiting_text, write_marks, write_orders, write_report, write_statement,
 };
 pub use crate::order::{order_reply, order_text};
 pub use crate::queue::{queue_reply, queue_text};
 pub use crate::refused::{batch_fault_reply, kind_reply, refusal_reply};
 pub use crate::replies::{ContentType, Reply};
-pub use crate::text::text_reply;
+pub use crate::text::{csv_reply, text_reply};

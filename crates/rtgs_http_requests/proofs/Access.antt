@@ -11,10 +11,12 @@ use Rattle.rtgs_book.specs.declared.reading.Reading.TheVariants as reading
 use Rattle.rtgs_http_requests.specs.heads.Fields.{HasKey}
 use Rattle.rtgs_http_requests.specs.heads.Heads.{fields_of}
 use Rattle.rtgs_http_requests.specs.heads.Targets.{is_post}
+use Rattle.rtgs_http_requests.specs.heads.Parameters.{Parts}
 use Rattle.rtgs_http_requests.specs.declared.heads.bank_route.BankRoute.{BankRoute}
 use Rattle.rtgs_http_requests.specs.declared.heads.bank_route.BankRoute.TheVariants.{SendOrder, WithdrawOrder}
 use Rattle.rtgs_http_requests.specs.declared.heads.bank_route.BankRoute.TheVariants.{SendBatch}
 use Rattle.rtgs_http_requests.specs.declared.heads.bank_route.BankRoute.TheVariants.{ReadOrder, ReadAccount, ReadQueue}
+use Rattle.rtgs_http_requests.specs.declared.heads.bank_route.BankRoute.TheVariants.{ReadHeld, ReadWaiting}
 use Rattle.rtgs_http_requests.specs.declared.heads.bank_route.BankRoute.TheVariants.{ReadStatement}
 use Rattle.rtgs_http_requests.specs.declared.heads.route.Route.{Route}
 use Rattle.rtgs_http_requests.specs.declared.heads.route.Route.TheVariants.{Bank, Operator}
@@ -88,6 +90,8 @@ bank_own ReadOrder caller parameter body asked x =
     same_own caller asked (Read (reading.Order caller r.0)) r.2 refl
 bank_own ReadAccount caller parameter body asked x = same_own caller asked (Read (reading.Account caller)) x refl
 bank_own ReadQueue caller parameter body asked x = same_own caller asked (Read (reading.Queue caller)) x refl
+bank_own ReadHeld caller parameter body asked x = same_own caller asked (Read (reading.Held caller)) x refl
+bank_own ReadWaiting caller parameter body asked x = same_own caller asked (Read (reading.Waiting caller)) x refl
 bank_own ReadStatement caller parameter body asked x =
     let d = value_of (SpellsDate parameter) (λ date (answer : Answer). answer
     ≡ Ok (Read (reading.Statement caller date))) asked x in
@@ -95,23 +99,23 @@ bank_own ReadStatement caller parameter body asked x =
 
 -- a key under a route leads to the operator, or to the participant who has it
 keyed : (operator : List ℕ) (code_of : CodeOf) (route : Route) (digest : List ℕ) (caller : Caller)
-    (parameter body : List ℕ) (asked : Asked)
-    → Ok caller ≡ caller_under operator code_of route (Some digest) → Means caller parameter body (Ok asked)
+    (parts : Parts) (body : List ℕ) (asked : Asked)
+    → Ok caller ≡ caller_under operator code_of route (Some digest) → Means caller parts body (Ok asked)
     → MayAsk operator code_of digest asked
-keyed operator code_of (Operator route) digest caller parameter body asked e means = by (bytes_eq digest operator) refl
+keyed operator code_of (Operator route) digest caller parts body asked e means = by (bytes_eq digest operator) refl
   where
     by : (same : Bool) → bytes_eq digest operator ≡ same → MayAsk operator code_of digest asked
     by true same = inl ((bytes_eq-Decides digest operator).0 same)
     by false other = let bad = rw other at e in let no : ⊥ = cc bad in absurd no
-keyed operator code_of (Bank route) digest caller parameter body asked e means = by (bytes_eq digest operator) refl
+keyed operator code_of (Bank route) digest caller parts body asked e means = by (bytes_eq digest operator) refl
   where
     own : (code : Option (List ℕ)) → code_of digest ≡ code → Ok caller ≡ known route code
         → MayAsk operator code_of digest asked
     own None found bad = let no : ⊥ = cc bad in absurd no
     own (Some code) found is =
         let same : caller ≡ admitted.Bank route code = cc is in
-        let P : Caller → Type 0 = λ a. Means a parameter body (Ok asked) in
-        inr (code, found, bank_own route code parameter body asked (subst P same means))
+        let P : Caller → Type 0 = λ a. Means a parts body (Ok asked) in
+        inr (code, found, bank_own route code parts.first body asked (subst P same means))
 
     by : (same : Bool) → bytes_eq digest operator ≡ same → MayAsk operator code_of digest asked
     by true same = inl ((bytes_eq-Decides digest operator).0 same)
@@ -132,15 +136,15 @@ own_alone operator code_of input asked x =
     by parts.0.0 parts.0.1 found.0.1 body.0 read.0.0 read.0.1 found.0.0 caller.0 caller.1.0 caller.1.1 caller.1.2 body.2
     parts.1 read.1
   where
-    by : (region rest parameter body : List ℕ) (head : RequestHead) (declared : Option ℕ) (route : Route)
-        (caller : Caller) (key : Option (List ℕ)) → HasKey (fields_of head) key
+    by : (region rest : List ℕ) (parts : Parts) (body : List ℕ) (head : RequestHead) (declared : Option ℕ)
+        (route : Route) (caller : Caller) (key : Option (List ℕ)) → HasKey (fields_of head) key
         → Ok caller ≡ caller_under operator code_of route key
-        → Means caller parameter body (Ok asked) → HasRegion input (Ok (region, rest))
+        → Means caller parts body (Ok asked) → HasRegion input (Ok (region, rest))
         → HasHead region (Ok (head, declared))
         → (digest : List ℕ) × CarriesKey input digest × MayAsk operator code_of digest asked
-    by region rest parameter body head declared route caller None has e means starts good = let no : ⊥ = cc e
+    by region rest parts body head declared route caller None has e means starts good = let no : ⊥ = cc e
         in absurd no
-    by region rest parameter body head declared route caller (Some digest) has e means starts good = (
+    by region rest parts body head declared route caller (Some digest) has e means starts good = (
       digest,
       record {
         region = region;
@@ -151,5 +155,5 @@ own_alone operator code_of input asked x =
         good = good;
         key = has;
       },
-      keyed operator code_of route digest caller parameter body asked e means,
+      keyed operator code_of route digest caller parts body asked e means,
     )

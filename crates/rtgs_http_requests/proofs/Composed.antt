@@ -1,14 +1,15 @@
 -- The steps of a head and of a key, put together.
 use Rattle.std.proofs.Common.{◌≡◌, ℕ, List, Bool, Option, Some, None, Result, Ok, Err, refl, sym, ap, ◌∙◌, subst}
-use Rattle.std.specs.Borrow.{Bor}
 use Rattle.httparse.specs.Grammar.{RequestHead}
 use Rattle.rtgs_http_requests.specs.heads.Fields.{HasKey}
 use Rattle.rtgs_http_requests.specs.heads.Heads.{IsGoodHead, fields_of}
+use Rattle.rtgs_http_requests.specs.heads.Parameters.{Parts, taken}
 use Rattle.rtgs_http_requests.specs.heads.Requests.{HasParts}
 use Rattle.rtgs_http_requests.specs.heads.Targets.{is_post, routed, GivesRoute}
 use Rattle.rtgs_http_requests.specs.declared.heads.head.Head.{Head}
 use Rattle.rtgs_http_requests.specs.declared.heads.head_fault.HeadFault.{HeadFault}
 use Rattle.rtgs_http_requests.specs.declared.heads.head_fault.HeadFault.TheVariants as head
+use Rattle.rtgs_http_requests.specs.declared.heads.parameters.Parameters.{Parameters}
 use Rattle.rtgs_http_requests.specs.declared.heads.route.Route.{Route}
 use Rattle.rtgs_http_requests.specs.Bodies.{body_length}
 use Rattle.rtgs_http_requests.specs.Callers.{Caller, CodeOf, caller_under, LeadsToCaller}
@@ -33,7 +34,7 @@ abbrev pub IsReadAs : List ℕ → Head → Type 0
 IsReadAs region kept = (read : RequestHead) × IsGoodHead region read kept.length × HasParts read kept
 
 -- its route is that of the parts
-routed_as : (read : RequestHead) (kept : Head) (found : Option (Route × List ℕ)) → HasParts read kept
+routed_as : (read : RequestHead) (kept : Head) (found : Option (Route × Parts)) → HasParts read kept
     → routed kept.method.now kept.target.now ≡ found → routed read.method read.target ≡ found
 routed_as read kept found parts e =
     let P : List ℕ → Type 0 = λ method. routed method read.target ≡ found in
@@ -61,7 +62,7 @@ route_fails operator region kept head.OutOfMemory parsed gives code_of input res
     (Err fault.OutOfMemory, tt, refl)
 
 -- so is the fault of its key
-pub key_fails : (operator region : List ℕ) (kept : Head) (found : Route × Bor (List ℕ)) (bad : HttpFault)
+pub key_fails : (operator region : List ℕ) (kept : Head) (found : Route × Parameters) (bad : HttpFault)
     → IsReadAs region kept → GivesRoute kept.method.now kept.target.now (Ok found)
     → LeadsToCaller operator found.0 kept.key (Err bad) → Plans operator region (Err bad)
 key_fails operator region kept found bad parsed gives leads code_of input rest starts = (
@@ -71,8 +72,8 @@ key_fails operator region kept found bad parsed gives leads code_of input rest s
     Ok (parsed.0, kept.length),
     parsed.1,
     (
-      Ok (found.0, found.1.now),
-      routed_as parsed.0 kept (Some (found.0, found.1.now)) parsed.2 gives,
+      Ok (found.0, taken found.1),
+      routed_as parsed.0 kept (Some (found.0, taken found.1)) parsed.2 gives,
       (
         Err bad,
         (kept.key, parsed.2.key, sym (leads code_of)),
@@ -88,41 +89,41 @@ led : (operator : List ℕ) (route : Route) (key : Option (List ℕ)) (known : C
 led operator route key (admitted.Operator served) code_of leads = leads code_of
 led operator route key (admitted.Bank served digest) code_of leads = leads.3 code_of
 
-abbrev behind : Bool → Option ℕ → List ℕ → List ℕ → Caller → Answer → Type 0
-behind posts length parameter rest caller =
+abbrev behind : Bool → Option ℕ → Parts → List ℕ → Caller → Answer → Type 0
+behind posts length parts rest caller =
     Then (λ parsed. parsed ≡ body_length posts length) (λ size.
     Then (HasBody rest size) (λ body.
-    Means caller parameter body))
+    Means caller parts body))
 
-same_behind : (posts other : Bool) (length declared : Option ℕ) (parameter rest : List ℕ)
+same_behind : (posts other : Bool) (length declared : Option ℕ) (parts : Parts) (rest : List ℕ)
     (parsed : Result Caller HttpFault) (answer : Answer)
-    → posts ≡ other → length ≡ declared → Goes (behind posts length parameter rest) answer parsed
-    → Goes (behind other declared parameter rest) answer parsed
-same_behind posts other length declared parameter rest parsed answer p l goes =
-    let P : Bool → Type 0 = λ b. Goes (behind b length parameter rest) answer parsed in
-    let Q : Option ℕ → Type 0 = λ n. Goes (behind other n parameter rest) answer parsed in
+    → posts ≡ other → length ≡ declared → Goes (behind posts length parts rest) answer parsed
+    → Goes (behind other declared parts rest) answer parsed
+same_behind posts other length declared parts rest parsed answer p l goes =
+    let P : Bool → Type 0 = λ b. Goes (behind b length parts rest) answer parsed in
+    let Q : Option ℕ → Type 0 = λ n. Goes (behind other n parts rest) answer parsed in
     subst Q l (subst P p goes)
 
 -- what is asked under a plan is asked by each input that starts with its region
-pub planned : (operator region : List ℕ) (kept : Head) (found : Route × Bor (List ℕ)) (plan : Plan)
+pub planned : (operator region : List ℕ) (kept : Head) (found : Route × Parameters) (plan : Plan)
     → IsReadAs region kept → GivesRoute kept.method.now kept.target.now (Ok found)
     → LeadsToCaller operator found.0 kept.key (Ok plan.caller)
-    → plan.parameter.now ≡ found.1.now → plan.posts ≡ is_post kept.method.now → plan.length ≡ kept.length
+    → taken plan.parameters ≡ taken found.1 → plan.posts ≡ is_post kept.method.now → plan.length ≡ kept.length
     → Plans operator region (Ok plan)
-planned operator region kept found plan parsed gives leads parameter posts size code_of input rest answer starts after =
-    let P : List ℕ → Type 0 = λ p. Goes (behind plan.posts plan.length p rest) answer after.0 in
+planned operator region kept found plan parsed gives leads parts posts size code_of input rest answer starts after =
+    let P : Parts → Type 0 = λ p. Goes (behind plan.posts plan.length p rest) answer after.0 in
     let same : is_post kept.method.now ≡ is_post parsed.0.method = ap (λ m. is_post m) parsed.2.method in
     let goes =
-    same_behind plan.posts (is_post parsed.0.method) plan.length kept.length found.1.now rest after.0 answer
-    (posts ∙ same) size (subst P parameter after.2) in (
+    same_behind plan.posts (is_post parsed.0.method) plan.length kept.length (taken found.1) rest after.0 answer
+    (posts ∙ same) size (subst P parts after.2) in (
       Ok (region, rest),
       starts,
       (
         Ok (parsed.0, kept.length),
         parsed.1,
         (
-          Ok (found.0, found.1.now),
-          routed_as parsed.0 kept (Some (found.0, found.1.now)) parsed.2 gives,
+          Ok (found.0, taken found.1),
+          routed_as parsed.0 kept (Some (found.0, taken found.1)) parsed.2 gives,
           (
             after.0,
             (kept.key, parsed.2.key, after.1 ∙ sym (led operator found.0 kept.key plan.caller code_of leads)),
@@ -133,7 +134,7 @@ planned operator region kept found plan parsed gives leads parameter posts size 
     )
 
 -- where a key leaves its bearer to be looked up, each input that starts with the region does
-pub looked_up : (operator region : List ℕ) (kept : Head) (found : Route × Bor (List ℕ)) (known : Caller)
+pub looked_up : (operator region : List ℕ) (kept : Head) (found : Route × Parameters) (known : Caller)
     → IsReadAs region kept → GivesRoute kept.method.now kept.target.now (Ok found)
     → LeadsToCaller operator found.0 kept.key (Ok known) → MayLookUp operator region known
 looked_up operator region kept found (admitted.Operator served) parsed gives leads = tt
@@ -143,12 +144,12 @@ looked_up operator region kept found (admitted.Bank served digest) parsed gives 
   head = parsed.0;
   declared = kept.length;
   route = served;
-  parameter = found.1.now;
+  parts = taken found.1;
   digest = digest;
   starts = starts;
   good = parsed.1;
-  found = subst (λ (r : Route). routed parsed.0.method parsed.0.target ≡ Some (r, found.1.now)) leads.0
-      (routed_as parsed.0 kept (Some (found.0, found.1.now)) parsed.2 gives);
+  found = subst (λ (r : Route). routed parsed.0.method parsed.0.target ≡ Some (r, taken found.1)) leads.0
+      (routed_as parsed.0 kept (Some (found.0, taken found.1)) parsed.2 gives);
   key = subst (λ (k : Option (List ℕ)). HasKey (fields_of parsed.0) k) leads.1 parsed.2.key;
   other = leads.2;
 }

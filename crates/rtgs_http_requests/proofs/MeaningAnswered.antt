@@ -8,10 +8,12 @@ use Rattle.rtgs_money.specs.Forms.{IsCode, IsReference, is_code, is_reference}
 use Rattle.rtgs_money.specs.declared.lexical.Lexical.TheVariants.{BadCode, BadReference, BadAmount}
 use Rattle.rtgs_book.specs.declared.command.Command.TheVariants as command
 use Rattle.rtgs_book.specs.declared.new_order.NewOrder.{NewOrder}
+use Rattle.rtgs_http_requests.specs.heads.Parameters.{Parts}
 use Rattle.rtgs_http_requests.specs.declared.heads.bank_route.BankRoute.{BankRoute}
 use Rattle.rtgs_http_requests.specs.declared.heads.bank_route.BankRoute.TheVariants.{SendOrder, WithdrawOrder}
 use Rattle.rtgs_http_requests.specs.declared.heads.bank_route.BankRoute.TheVariants.{SendBatch}
 use Rattle.rtgs_http_requests.specs.declared.heads.bank_route.BankRoute.TheVariants.{ReadOrder, ReadAccount, ReadQueue}
+use Rattle.rtgs_http_requests.specs.declared.heads.bank_route.BankRoute.TheVariants.{ReadHeld, ReadWaiting}
 use Rattle.rtgs_http_requests.specs.declared.heads.bank_route.BankRoute.TheVariants.{ReadStatement}
 use Rattle.rtgs_http_requests.specs.declared.heads.operator_route.OperatorRoute.{OperatorRoute}
 use Rattle.rtgs_http_requests.specs.declared.heads.operator_route.OperatorRoute.TheVariants.{Post, SetCredit, OpenDay}
@@ -19,13 +21,16 @@ use Rattle.rtgs_http_requests.specs.declared.heads.operator_route.OperatorRoute.
 use Rattle.rtgs_http_requests.specs.declared.heads.operator_route.OperatorRoute.TheVariants.{CutOff, CloseDay}
 use Rattle.rtgs_http_requests.specs.declared.heads.operator_route.OperatorRoute.TheVariants.{ReadReport}
 use Rattle.rtgs_http_requests.specs.declared.heads.operator_route.OperatorRoute.TheVariants.{ReadAccounts}
+use Rattle.rtgs_http_requests.specs.declared.heads.operator_route.OperatorRoute.TheVariants.{ReadStatus, ReadQueues}
+use Rattle.rtgs_http_requests.specs.declared.heads.operator_route.OperatorRoute.TheVariants.{ReadOrders, ReadMarks}
+use Rattle.rtgs_http_requests.specs.declared.heads.operator_route.OperatorRoute.TheVariants.{ForBank}
 use Rattle.rtgs_http_requests.specs.Bodies.{ReadsJson}
 use Rattle.rtgs_http_requests.specs.Callers.{Caller}
 use Rattle.rtgs_http_requests.specs.Contents.{FindsContent, HasPosting, HasCredit, HasDate, HasOpening, HasNothing}
 use Rattle.rtgs_http_requests.specs.Meaning.{Answer, AsksDay, AsksPlainly, Means, MeansBank, MeansOperator}
 use Rattle.rtgs_http_requests.specs.Meaning.{SubmitsOrder, IsPostingOf, SpellsCredit, SpellsOpening}
 use Rattle.rtgs_http_requests.specs.OrderBody.{OrderValues, HasOrder, SpellsOrder}
-use Rattle.rtgs_http_requests.specs.Spelling.{SpellsReference, SpellsDate}
+use Rattle.rtgs_http_requests.specs.Spelling.{SpellsCode, SpellsReference, SpellsDate}
 use Rattle.rtgs_http_requests.specs.Steps.{Then, HasAnswer}
 use Rattle.rtgs_http_requests.specs.declared.admitted.Admitted.TheVariants as admitted
 use Rattle.rtgs_http_requests.specs.declared.asked.Asked.{Asked}
@@ -37,7 +42,7 @@ use Rattle.rtgs_http_requests.proofs.Answered.{then_answered, outcome_answered, 
 use Rattle.rtgs_http_requests.proofs.Decisions.{truth, credit, posting}
 use Rattle.rtgs_http_requests.proofs.FilesAnswered.{file_answered}
 use Rattle.rtgs_http_requests.proofs.OrderBody.{order_answered}
-use Rattle.rtgs_http_requests.proofs.Spelt.{reference_answered, date_answered}
+use Rattle.rtgs_http_requests.proofs.Spelt.{code_answered, reference_answered, date_answered}
 
 -- ---- values of bodies
 
@@ -189,21 +194,31 @@ bank_answered alloc ReadOrder caller parameter body = referred_answered paramete
     (λ reference. Read (reading.Order caller reference))
 bank_answered alloc ReadAccount caller parameter body = value_answered (Read (reading.Account caller))
 bank_answered alloc ReadQueue caller parameter body = value_answered (Read (reading.Queue caller))
+bank_answered alloc ReadHeld caller parameter body = value_answered (Read (reading.Held caller))
+bank_answered alloc ReadWaiting caller parameter body = value_answered (Read (reading.Waiting caller))
 bank_answered alloc ReadStatement caller parameter body = dated_answered parameter
     (λ date. Read (reading.Statement caller date))
 
-operator_answered : (route : OperatorRoute) (parameter body : List ℕ) → HasAnswer (MeansOperator route parameter body)
-operator_answered Post parameter body = spelt_answered HasPosting (λ values. IsPostingOf values) body posting_answered
-operator_answered SetCredit parameter body = spelt_answered HasCredit (λ values. SpellsCredit values) body
+operator_answered : Global → (route : OperatorRoute) (parts : Parts) (body : List ℕ)
+    → HasAnswer (MeansOperator route parts body)
+operator_answered alloc Post parts body = spelt_answered HasPosting (λ values. IsPostingOf values) body posting_answered
+operator_answered alloc SetCredit parts body = spelt_answered HasCredit (λ values. SpellsCredit values) body
     credit_answered
-operator_answered OpenDay parameter body = spelt_answered HasOpening (λ values. SpellsOpening values) body
+operator_answered alloc OpenDay parts body = spelt_answered HasOpening (λ values. SpellsOpening values) body
     opening_answered
-operator_answered Resolve parameter body = plainly_answered body (Submit command.Resolve)
-operator_answered CutOff parameter body = day_answered body (λ date. Submit (command.CutOff date))
-operator_answered CloseDay parameter body = day_answered body (λ date. Submit (command.CloseDay date))
-operator_answered ReadReport parameter body = dated_answered parameter (λ date. Read (reading.Report date))
-operator_answered ReadAccounts parameter body = value_answered (Read reading.Accounts)
+operator_answered alloc Resolve parts body = plainly_answered body (Submit command.Resolve)
+operator_answered alloc CutOff parts body = day_answered body (λ date. Submit (command.CutOff date))
+operator_answered alloc CloseDay parts body = day_answered body (λ date. Submit (command.CloseDay date))
+operator_answered alloc ReadReport parts body = dated_answered parts.first (λ date. Read (reading.Report date))
+operator_answered alloc ReadAccounts parts body = value_answered (Read reading.Accounts)
+operator_answered alloc ReadStatus parts body = value_answered (Read reading.Status)
+operator_answered alloc ReadQueues parts body = value_answered (Read reading.Queues)
+operator_answered alloc ReadOrders parts body = dated_answered parts.first (λ date. Read (reading.Orders date))
+operator_answered alloc ReadMarks parts body = dated_answered parts.first (λ date. Read (reading.Marks date))
+operator_answered alloc (ForBank route) parts body =
+    then_answered (SpellsCode parts.first) (λ code. MeansBank route code parts.second body) (code_answered parts.first)
+    (λ code. bank_answered alloc route code parts.second body)
 
-pub meaning_answered : Global → (caller : Caller) (parameter body : List ℕ) → HasAnswer (Means caller parameter body)
-meaning_answered alloc (admitted.Bank route caller) parameter body = bank_answered alloc route caller parameter body
-meaning_answered alloc (admitted.Operator route) parameter body = operator_answered route parameter body
+pub meaning_answered : Global → (caller : Caller) (parts : Parts) (body : List ℕ) → HasAnswer (Means caller parts body)
+meaning_answered alloc (admitted.Bank route caller) parts body = bank_answered alloc route caller parts.first body
+meaning_answered alloc (admitted.Operator route) parts body = operator_answered alloc route parts body

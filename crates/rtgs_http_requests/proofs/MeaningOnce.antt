@@ -3,10 +3,12 @@ use Rattle.std.proofs.Common.{◌≡◌, inl, inr, ℕ, Bool, List, Result, Ok, 
 use Rattle.serde_json.specs.Data.{Data}
 use Rattle.rtgs_book.specs.declared.command.Command.TheVariants as command
 use Rattle.rtgs_book.specs.declared.new_order.NewOrder.{NewOrder}
+use Rattle.rtgs_http_requests.specs.heads.Parameters.{Parts}
 use Rattle.rtgs_http_requests.specs.declared.heads.bank_route.BankRoute.{BankRoute}
 use Rattle.rtgs_http_requests.specs.declared.heads.bank_route.BankRoute.TheVariants.{SendOrder, WithdrawOrder}
 use Rattle.rtgs_http_requests.specs.declared.heads.bank_route.BankRoute.TheVariants.{SendBatch}
 use Rattle.rtgs_http_requests.specs.declared.heads.bank_route.BankRoute.TheVariants.{ReadOrder, ReadAccount, ReadQueue}
+use Rattle.rtgs_http_requests.specs.declared.heads.bank_route.BankRoute.TheVariants.{ReadHeld, ReadWaiting}
 use Rattle.rtgs_http_requests.specs.declared.heads.bank_route.BankRoute.TheVariants.{ReadStatement}
 use Rattle.rtgs_http_requests.specs.declared.heads.operator_route.OperatorRoute.{OperatorRoute}
 use Rattle.rtgs_http_requests.specs.declared.heads.operator_route.OperatorRoute.TheVariants.{Post, SetCredit, OpenDay}
@@ -14,6 +16,9 @@ use Rattle.rtgs_http_requests.specs.declared.heads.operator_route.OperatorRoute.
 use Rattle.rtgs_http_requests.specs.declared.heads.operator_route.OperatorRoute.TheVariants.{CutOff, CloseDay}
 use Rattle.rtgs_http_requests.specs.declared.heads.operator_route.OperatorRoute.TheVariants.{ReadReport}
 use Rattle.rtgs_http_requests.specs.declared.heads.operator_route.OperatorRoute.TheVariants.{ReadAccounts}
+use Rattle.rtgs_http_requests.specs.declared.heads.operator_route.OperatorRoute.TheVariants.{ReadStatus, ReadQueues}
+use Rattle.rtgs_http_requests.specs.declared.heads.operator_route.OperatorRoute.TheVariants.{ReadOrders, ReadMarks}
+use Rattle.rtgs_http_requests.specs.declared.heads.operator_route.OperatorRoute.TheVariants.{ForBank}
 use Rattle.rtgs_http_requests.specs.Bodies.{ReadsJson}
 use Rattle.rtgs_http_requests.specs.Callers.{Caller}
 use Rattle.rtgs_http_requests.specs.Contents.{FindsContent, HasPosting, HasCredit, HasDate, HasOpening, HasNothing}
@@ -21,7 +26,7 @@ use Rattle.rtgs_http_requests.specs.Meaning.{Answer, AsksBatch, AsksDay, AsksPla
 use Rattle.rtgs_http_requests.specs.Meaning.{SubmitsOrder, IsPostingOf, SpellsCredit, SpellsOpening}
 use Rattle.rtgs_http_requests.specs.OrderBody.{OrderValues, HasOrder, SpellsOrder}
 use Rattle.rtgs_http_requests.specs.Same.{AreTheSame}
-use Rattle.rtgs_http_requests.specs.Spelling.{SpellsReference, SpellsDate}
+use Rattle.rtgs_http_requests.specs.Spelling.{SpellsCode, SpellsReference, SpellsDate}
 use Rattle.rtgs_http_requests.specs.Steps.{Then}
 use Rattle.rtgs_http_requests.specs.declared.admitted.Admitted.TheVariants as admitted
 use Rattle.rtgs_http_requests.specs.declared.asked.Asked.{Asked}
@@ -29,12 +34,13 @@ use Rattle.rtgs_http_requests.specs.declared.asked.Asked.TheVariants.{Submit, Ba
 use Rattle.rtgs_http_requests.specs.declared.http_fault.HttpFault.{HttpFault}
 use Rattle.rtgs_http_requests.specs.declared.http_fault.HttpFault.TheVariants as fault
 use Rattle.rtgs_book.specs.declared.reading.Reading.TheVariants as reading
-use Rattle.rtgs_http_requests.proofs.Agreement.{Agree, Equal, IsDetermined, then_determined, equal_outcome}
+use Rattle.rtgs_http_requests.proofs.Agreement.{Agree, Equal, IsDetermined, then_determined, then_once}
+use Rattle.rtgs_http_requests.proofs.Agreement.{equal_outcome}
 use Rattle.rtgs_http_requests.proofs.ContentsOnce.{json_once, content_once, one_posting, one_credit, one_date}
 use Rattle.rtgs_http_requests.proofs.ContentsOnce.{one_opening, one_nothing, posting_once, credit_once}
 use Rattle.rtgs_http_requests.proofs.Lower.{LowerLaws}
 use Rattle.rtgs_http_requests.proofs.OrderBody.{one_order, order_once}
-use Rattle.rtgs_http_requests.proofs.Spelt.{reference_once, date_once, equal_once}
+use Rattle.rtgs_http_requests.proofs.Spelt.{code_once, reference_once, date_once, equal_once}
 
 same_as_itself : (answer : Answer) → AreTheSame answer answer
 same_as_itself (Ok (Submit submitted)) = refl
@@ -134,26 +140,46 @@ bank_once laws ReadOrder caller parameter body one other x y =
     the_same one other (referred_once parameter (λ reference. Ok (Read (reading.Order caller reference))) one other x y)
 bank_once laws ReadAccount caller parameter body one other x y = the_same one other (equal_outcome _ one other x y)
 bank_once laws ReadQueue caller parameter body one other x y = the_same one other (equal_outcome _ one other x y)
+bank_once laws ReadHeld caller parameter body one other x y = the_same one other (equal_outcome _ one other x y)
+bank_once laws ReadWaiting caller parameter body one other x y = the_same one other (equal_outcome _ one other x y)
 bank_once laws ReadStatement caller parameter body one other x y =
     the_same one other (dated_once laws parameter (λ date. Ok (Read (reading.Statement caller date))) one other x y)
 
-operator_once : LowerLaws → (route : OperatorRoute) (parameter body : List ℕ)
-    → IsDetermined (MeansOperator route parameter body)
-operator_once laws Post parameter body = spelt_once HasPosting (λ values. IsPostingOf values) body one_posting
-    posting_once
-operator_once laws SetCredit parameter body = spelt_once HasCredit (λ values. SpellsCredit values) body one_credit
-    credit_once
-operator_once laws OpenDay parameter body = spelt_once HasOpening (λ values. SpellsOpening values) body one_opening
-    (opening_once laws)
-operator_once laws Resolve parameter body = plainly_once body (Submit command.Resolve)
-operator_once laws CutOff parameter body = day_once laws body (λ date. Ok (Submit (command.CutOff date)))
-operator_once laws CloseDay parameter body = day_once laws body (λ date. Ok (Submit (command.CloseDay date)))
-operator_once laws ReadReport parameter body = dated_once laws parameter (λ date. Ok (Read (reading.Report date)))
-operator_once laws ReadAccounts parameter body = equal_outcome (Ok (Read reading.Accounts))
+pub fault_same : (bad : HttpFault) → AreTheSame (Err bad) (Err bad)
+fault_same bad = refl
 
-pub meant_once : LowerLaws → (caller : Caller) (parameter body : List ℕ) (one other : Answer)
-    → Means caller parameter body one → Means caller parameter body other → Agree AreTheSame one other
-meant_once laws (admitted.Bank route caller) parameter body one other x y =
-    bank_once laws route caller parameter body one other x y
-meant_once laws (admitted.Operator route) parameter body one other x y =
-    the_same one other (operator_once laws route parameter body one other x y)
+operator_once : LowerLaws → (route : OperatorRoute) (parts : Parts) (body : List ℕ) (one other : Answer)
+    → MeansOperator route parts body one → MeansOperator route parts body other → Agree AreTheSame one other
+operator_once laws Post parts body one other x y =
+    the_same one other (spelt_once HasPosting (λ values. IsPostingOf values) body one_posting posting_once one other
+    x y)
+operator_once laws SetCredit parts body one other x y =
+    the_same one other (spelt_once HasCredit (λ values. SpellsCredit values) body one_credit credit_once one other x y)
+operator_once laws OpenDay parts body one other x y =
+    the_same one other (spelt_once HasOpening (λ values. SpellsOpening values) body one_opening (opening_once laws)
+    one other x y)
+operator_once laws Resolve parts body one other x y =
+    the_same one other (plainly_once body (Submit command.Resolve) one other x y)
+operator_once laws CutOff parts body one other x y =
+    the_same one other (day_once laws body (λ date. Ok (Submit (command.CutOff date))) one other x y)
+operator_once laws CloseDay parts body one other x y =
+    the_same one other (day_once laws body (λ date. Ok (Submit (command.CloseDay date))) one other x y)
+operator_once laws ReadReport parts body one other x y =
+    the_same one other (dated_once laws parts.first (λ date. Ok (Read (reading.Report date))) one other x y)
+operator_once laws ReadAccounts parts body one other x y = the_same one other (equal_outcome _ one other x y)
+operator_once laws ReadStatus parts body one other x y = the_same one other (equal_outcome _ one other x y)
+operator_once laws ReadQueues parts body one other x y = the_same one other (equal_outcome _ one other x y)
+operator_once laws ReadOrders parts body one other x y =
+    the_same one other (dated_once laws parts.first (λ date. Ok (Read (reading.Orders date))) one other x y)
+operator_once laws ReadMarks parts body one other x y =
+    the_same one other (dated_once laws parts.first (λ date. Ok (Read (reading.Marks date))) one other x y)
+operator_once laws (ForBank route) parts body one other x y =
+    then_once AreTheSame fault_same (SpellsCode parts.first) (λ code. MeansBank route code parts.second body)
+    (code_once parts.first) (λ code. bank_once laws route code parts.second body) one other x y
+
+pub meant_once : LowerLaws → (caller : Caller) (parts : Parts) (body : List ℕ) (one other : Answer)
+    → Means caller parts body one → Means caller parts body other → Agree AreTheSame one other
+meant_once laws (admitted.Bank route caller) parts body one other x y =
+    bank_once laws route caller parts.first body one other x y
+meant_once laws (admitted.Operator route) parts body one other x y =
+    operator_once laws route parts body one other x y

@@ -1,9 +1,9 @@
--- A text spells one reference and one date, or has a fault.
+-- A text spells one code, one reference and one date, or has a fault.
 use Rattle.std.proofs.Common.{◌≡◌, ◌⊎◌, inl, inr, ℕ, List, Result, Ok, Err, refl, sym, ◌∙◌}
 use Rattle.rtgs_money.specs.Date.{IsBusinessDate, date_text}
-use Rattle.rtgs_money.specs.Forms.{IsReference, is_reference}
-use Rattle.rtgs_money.specs.declared.lexical.Lexical.TheVariants.{BadReference, BadDate}
-use Rattle.rtgs_http_requests.specs.Spelling.{SpellsReference, SpellsDate}
+use Rattle.rtgs_money.specs.Forms.{IsCode, IsReference, is_code, is_reference}
+use Rattle.rtgs_money.specs.declared.lexical.Lexical.TheVariants.{BadCode, BadReference, BadDate}
+use Rattle.rtgs_http_requests.specs.Spelling.{SpellsCode, SpellsReference, SpellsDate}
 use Rattle.rtgs_http_requests.specs.Steps.{HasAnswer}
 use Rattle.rtgs_http_requests.specs.declared.http_fault.HttpFault.{HttpFault}
 use Rattle.rtgs_http_requests.specs.declared.http_fault.HttpFault.TheVariants as fault
@@ -11,6 +11,14 @@ use Rattle.rtgs_http_requests.proofs.Agreement.{IsDetermined, Tells, once_outcom
 use Rattle.rtgs_http_requests.proofs.Answered.{outcome_answered}
 use Rattle.rtgs_http_requests.proofs.Decisions.{truth}
 use Rattle.rtgs_http_requests.proofs.Lower.{LowerLaws}
+
+pub code_once : (text : List ℕ) → IsDetermined (SpellsCode text)
+code_once text one other x y = by (truth (is_code text))
+  where
+    by : IsCode text ⊎ (¬ IsCode text) → (one ≡ Err fault.OutOfMemory)
+        ⊎ ((other ≡ Err fault.OutOfMemory) ⊎ (one ≡ other))
+    by (inl good) = equal_outcome _ one other (x.found good) (y.found good)
+    by (inr bad) = equal_outcome _ one other (x.refused bad) (y.refused bad)
 
 pub reference_once : (text : List ℕ) → IsDetermined (SpellsReference text)
 reference_once text one other x y = by (truth (is_reference text))
@@ -38,6 +46,14 @@ date_once laws text one other x y =
 pub equal_once : {A B : Type 0} (answer : A → Result B HttpFault) (value : A)
     → IsDetermined (λ (outcome : Result B HttpFault). outcome ≡ answer value)
 equal_once answer value one other x y = equal_outcome (answer value) one other x y
+
+pub code_answered : (text : List ℕ) → HasAnswer (SpellsCode text)
+code_answered text none = by (truth (is_code text))
+  where
+    by : ¬ (IsCode text ⊎ (¬ IsCode text))
+    by (inl good) = let clash = none (Ok text) (record { found = λ _. refl; refused = λ bad. absurd (bad good) }) in cc
+    by (inr bad) = let clash = none (Err (fault.Form BadCode))
+        (record { found = λ good. absurd (bad good); refused = λ _. refl }) in cc
 
 pub reference_answered : (text : List ℕ) → HasAnswer (SpellsReference text)
 reference_answered text none = by (truth (is_reference text))

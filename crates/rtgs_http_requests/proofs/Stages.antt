@@ -1,6 +1,7 @@
 -- What follows each step of a request.
 use Rattle.std.proofs.Common.{◌≡◌, ℕ, List, Option}
 use Rattle.httparse.specs.Grammar.{RequestHead}
+use Rattle.rtgs_http_requests.specs.heads.Parameters.{Parts}
 use Rattle.rtgs_http_requests.specs.heads.Targets.{is_post}
 use Rattle.rtgs_http_requests.specs.declared.heads.route.Route.{Route}
 use Rattle.rtgs_http_requests.specs.Bodies.{body_length}
@@ -9,14 +10,14 @@ use Rattle.rtgs_http_requests.specs.Exchange.{HasHead, HasRoute, HasCaller, HasB
 use Rattle.rtgs_http_requests.specs.Meaning.{Answer, Means}
 use Rattle.rtgs_http_requests.specs.Steps.{Then}
 
-abbrev pub after_size : List ℕ → List ℕ → Caller → ℕ → Answer → Type 0
-after_size rest parameter caller size = Then (HasBody rest size) (λ body. Means caller parameter body)
+abbrev pub after_size : List ℕ → Parts → Caller → ℕ → Answer → Type 0
+after_size rest parts caller size = Then (HasBody rest size) (λ body. Means caller parts body)
 
-abbrev pub after_caller : RequestHead → Option ℕ → List ℕ → List ℕ → Caller → Answer → Type 0
-after_caller head declared rest parameter caller =
-    Then (λ outcome. outcome ≡ body_length (is_post head.method) declared) (after_size rest parameter caller)
+abbrev pub after_caller : RequestHead → Option ℕ → List ℕ → Parts → Caller → Answer → Type 0
+after_caller head declared rest parts caller =
+    Then (λ outcome. outcome ≡ body_length (is_post head.method) declared) (after_size rest parts caller)
 
-abbrev pub after_route : List ℕ → CodeOf → List ℕ → RequestHead → Option ℕ → Route × List ℕ → Answer → Type 0
+abbrev pub after_route : List ℕ → CodeOf → List ℕ → RequestHead → Option ℕ → Route × Parts → Answer → Type 0
 after_route operator code_of rest head declared found =
     Then (HasCaller operator code_of found.0 head) (after_caller head declared rest found.1)
 

@@ -10,6 +10,7 @@ use Rattle.rtgs_http_requests.specs.feeds.Region.{StartsWith, IsTooLong, IsOpen}
 use Rattle.rtgs_http_requests.specs.declared.feeds.limits.TheConstants.{LONGEST_BODY}
 use Rattle.rtgs_http_requests.specs.heads.Fields.{HasKey, values_of}
 use Rattle.rtgs_http_requests.specs.heads.Heads.{IsGoodHead, fields_of}
+use Rattle.rtgs_http_requests.specs.heads.Parameters.{Parts}
 use Rattle.rtgs_http_requests.specs.heads.Targets.{routed, is_post}
 use Rattle.rtgs_http_requests.specs.declared.heads.bank_route.BankRoute.{BankRoute}
 use Rattle.rtgs_http_requests.specs.declared.heads.route.Route.{Route}
@@ -45,7 +46,7 @@ head_answered region =
 route_answered : (head : RequestHead) → HasAnswer (HasRoute head)
 route_answered head none = by (routed head.method head.target) refl
   where
-    by : (found : Option (Route × List ℕ)) → routed head.method head.target ≡ found → ⊥
+    by : (found : Option (Route × Parts)) → routed head.method head.target ≡ found → ⊥
     by None e = let clash = none (Err fault.NoSuchRoute) e in cc
     by (Some found) e = let clash = none (Ok found) e in cc
 
@@ -99,22 +100,22 @@ body_answered rest size none = by (cases_lt (length rest) size)
     by (inr enough) = let clash = none (Ok (take size rest)) (enough, refl) in cc
 
 -- the steps from the length on, from the caller on, and so on
-size_on : Global → (rest parameter : List ℕ) (caller : Caller) (size : ℕ)
-    → HasAnswer (after_size rest parameter caller size)
-size_on alloc rest parameter caller size =
-    then_answered (HasBody rest size) (λ body. Means caller parameter body) (body_answered rest size)
-    (λ body. meaning_answered alloc caller parameter body)
+size_on : Global → (rest : List ℕ) (parts : Parts) (caller : Caller) (size : ℕ)
+    → HasAnswer (after_size rest parts caller size)
+size_on alloc rest parts caller size =
+    then_answered (HasBody rest size) (λ body. Means caller parts body) (body_answered rest size)
+    (λ body. meaning_answered alloc caller parts body)
 
-caller_on : Global → (head : RequestHead) (declared : Option ℕ) (rest parameter : List ℕ) (caller : Caller)
-    → HasAnswer (after_caller head declared rest parameter caller)
-caller_on alloc head declared rest parameter caller =
-    then_answered (λ outcome. outcome ≡ body_length (is_post head.method) declared) (after_size rest parameter caller)
+caller_on : Global → (head : RequestHead) (declared : Option ℕ) (rest : List ℕ) (parts : Parts) (caller : Caller)
+    → HasAnswer (after_caller head declared rest parts caller)
+caller_on alloc head declared rest parts caller =
+    then_answered (λ outcome. outcome ≡ body_length (is_post head.method) declared) (after_size rest parts caller)
     (equal_answered (body_length (is_post head.method) declared)
     (length_takes_no_memory (is_post head.method) declared))
-    (size_on alloc rest parameter caller)
+    (size_on alloc rest parts caller)
 
 route_on : Global → (operator : List ℕ) (code_of : CodeOf) (rest : List ℕ) (head : RequestHead) (declared : Option ℕ)
-    (found : Route × List ℕ)
+    (found : Route × Parts)
     → HasAnswer (after_route operator code_of rest head declared found)
 route_on alloc operator code_of rest head declared found =
     then_answered (HasCaller operator code_of found.0 head) (after_caller head declared rest found.1)

@@ -5,6 +5,7 @@ use Rattle.std.specs.Prelude.{◌≢◌}
 use Rattle.std.proofs.lemmas.List.{append_cancel_left}
 use Rattle.httparse.specs.Grammar.{RequestHead}
 use Rattle.rtgs_http_requests.specs.heads.Heads.{IsGoodHead, fields_of}
+use Rattle.rtgs_http_requests.specs.heads.Parameters.{Parts}
 use Rattle.rtgs_http_requests.specs.heads.Targets.{routed, is_post}
 use Rattle.rtgs_http_requests.specs.declared.heads.route.Route.{Route}
 use Rattle.rtgs_http_requests.specs.Bodies.{body_length}
@@ -16,7 +17,7 @@ use Rattle.rtgs_http_requests.specs.declared.http_fault.HttpFault.{HttpFault}
 use Rattle.rtgs_http_requests.specs.declared.http_fault.HttpFault.TheVariants as fault
 use Rattle.rtgs_http_requests.proofs.Agreement.{Agree, IsDetermined, Tells, once_outcome, equal_outcome, then_once}
 use Rattle.rtgs_http_requests.proofs.Lower.{LowerLaws}
-use Rattle.rtgs_http_requests.proofs.MeaningOnce.{meant_once}
+use Rattle.rtgs_http_requests.proofs.MeaningOnce.{fault_same, meant_once}
 use Rattle.rtgs_http_requests.proofs.Stages.{after_size, after_caller, after_route, after_head, after_region}
 use Rattle.rtgs_http_requests.proofs.ContentsOnce.{same_two}
 
@@ -55,23 +56,23 @@ head_once laws region one other x y =
     (λ a b p q. same_two a b (laws.heads region a.0 b.0 a.1 b.1 p q) (laws.lengths region a.0 b.0 a.1 b.1 p q))
     one other (tells_head region one x) (tells_head region other y)
 
-abbrev IsRouteOf : RequestHead → Route × List ℕ → Type 0
+abbrev IsRouteOf : RequestHead → Route × Parts → Type 0
 IsRouteOf head found = routed head.method head.target ≡ Some found
 
-no_route : (head : RequestHead) (found : Route × List ℕ) → routed head.method head.target ≡ None
+no_route : (head : RequestHead) (found : Route × Parts) → routed head.method head.target ≡ None
     → ¬ IsRouteOf head found
 no_route head found none some =
-    let clash : ◌≡◌ {A = Option (Route × List ℕ)} None (Some found) = sym none ∙ some in
+    let clash : ◌≡◌ {A = Option (Route × Parts)} None (Some found) = sym none ∙ some in
     cc
 
-tells_route : (head : RequestHead) (outcome : Result (Route × List ℕ) HttpFault) → HasRoute head outcome
+tells_route : (head : RequestHead) (outcome : Result (Route × Parts) HttpFault) → HasRoute head outcome
     → Tells (IsRouteOf head) fault.NoSuchRoute outcome
 tells_route head (Ok found) x = inl (found, refl, x)
 tells_route head (Err fault.NoSuchRoute) none = inr (inl (refl, λ found. no_route head found none))
 tells_route head (Err fault.OutOfMemory) x = inr (inr refl)
 tells_route head (Err _) x = absurd x
 
-one_route : (head : RequestHead) (one other : Route × List ℕ) → IsRouteOf head one → IsRouteOf head other → one ≡ other
+one_route : (head : RequestHead) (one other : Route × Parts) → IsRouteOf head one → IsRouteOf head other → one ≡ other
 one_route head one other x y =
     let same : Some one ≡ Some other = sym x ∙ y in
     cc
@@ -102,28 +103,25 @@ body_once rest size one other x y =
     once_outcome (IsBodyOf rest size) fault.Truncated (λ a b p q. p.1 ∙ sym q.1) one other (tells_body rest size one x)
     (tells_body rest size other y)
 
-fault_same : (bad : HttpFault) → AreTheSame (Err bad) (Err bad)
-fault_same bad = refl
-
 -- the steps from the length on, from the caller on, and so on
-size_on : LowerLaws → (rest parameter : List ℕ) (caller : Caller) (size : ℕ) (one other : Answer)
-    → after_size rest parameter caller size one → after_size rest parameter caller size other
+size_on : LowerLaws → (rest : List ℕ) (parts : Parts) (caller : Caller) (size : ℕ) (one other : Answer)
+    → after_size rest parts caller size one → after_size rest parts caller size other
     → Agree AreTheSame one other
-size_on laws rest parameter caller size one other x y =
-    then_once AreTheSame fault_same (HasBody rest size) (λ body. Means caller parameter body) (body_once rest size)
-    (λ body. meant_once laws caller parameter body) one other x y
+size_on laws rest parts caller size one other x y =
+    then_once AreTheSame fault_same (HasBody rest size) (λ body. Means caller parts body) (body_once rest size)
+    (λ body. meant_once laws caller parts body) one other x y
 
-caller_on : LowerLaws → (head : RequestHead) (declared : Option ℕ) (rest parameter : List ℕ) (caller : Caller)
+caller_on : LowerLaws → (head : RequestHead) (declared : Option ℕ) (rest : List ℕ) (parts : Parts) (caller : Caller)
     (one other : Answer)
-    → after_caller head declared rest parameter caller one → after_caller head declared rest parameter caller other
+    → after_caller head declared rest parts caller one → after_caller head declared rest parts caller other
     → Agree AreTheSame one other
-caller_on laws head declared rest parameter caller one other x y =
+caller_on laws head declared rest parts caller one other x y =
     then_once AreTheSame fault_same (λ outcome. outcome ≡ body_length (is_post head.method) declared)
-    (after_size rest parameter caller)
-    (equal_outcome (body_length (is_post head.method) declared)) (size_on laws rest parameter caller) one other x y
+    (after_size rest parts caller)
+    (equal_outcome (body_length (is_post head.method) declared)) (size_on laws rest parts caller) one other x y
 
 route_on : LowerLaws → (operator : List ℕ) (code_of : CodeOf) (rest : List ℕ) (head : RequestHead) (declared : Option ℕ)
-    (found : Route × List ℕ) (one other : Answer)
+    (found : Route × Parts) (one other : Answer)
     → after_route operator code_of rest head declared found one
     → after_route operator code_of rest head declared found other → Agree AreTheSame one other
 route_on laws operator code_of rest head declared found one other x y =

@@ -30,9 +30,15 @@ abbrev pub IsReadingOf : List ℕ → Reading → Type 0
 IsReadingOf code (reading.Order sender reference) = sender ≡ code
 IsReadingOf code (reading.Account other) = other ≡ code
 IsReadingOf code (reading.Queue other) = other ≡ code
+IsReadingOf code (reading.Held other) = other ≡ code
+IsReadingOf code (reading.Waiting other) = other ≡ code
 IsReadingOf code (reading.Statement other date) = other ≡ code
 IsReadingOf code (reading.Report date) = ⊥
 IsReadingOf code reading.Accounts = ⊥
+IsReadingOf code reading.Queues = ⊥
+IsReadingOf code reading.Status = ⊥
+IsReadingOf code (reading.Orders date) = ⊥
+IsReadingOf code (reading.Marks date) = ⊥
 
 -- What is asked is this participant's own.
 abbrev pub IsOwn : List ℕ → Asked → Type 0

@@ -4,6 +4,7 @@ use Rattle.httparse.specs.Grammar.{RequestHead}
 use Rattle.rtgs_http_requests.specs.feeds.Region.{StartsWith, IsTooLong, IsOpen}
 use Rattle.rtgs_http_requests.specs.heads.Fields.{HasKey}
 use Rattle.rtgs_http_requests.specs.heads.Heads.{IsGoodHead, fields_of}
+use Rattle.rtgs_http_requests.specs.heads.Parameters.{Parts}
 use Rattle.rtgs_http_requests.specs.heads.Targets.{routed, is_post}
 use Rattle.rtgs_http_requests.specs.declared.heads.route.Route.{Route}
 use Rattle.rtgs_http_requests.specs.declared.http_fault.HttpFault.{HttpFault}
@@ -28,8 +29,8 @@ HasHead region (Ok (head, declared)) = IsGoodHead region head declared
 HasHead region (Err BadHead) = (head : RequestHead) (declared : Option ℕ) → ¬ IsGoodHead region head declared
 HasHead region (Err _) = ⊥
 
--- the route of the head, and what its parameter took of the target
-abbrev pub HasRoute : RequestHead → Result (Route × List ℕ) HttpFault → Type 0
+-- the route of the head, and what its parameters took of the target
+abbrev pub HasRoute : RequestHead → Result (Route × Parts) HttpFault → Type 0
 HasRoute head (Ok found) = routed head.method head.target ≡ Some found
 HasRoute head (Err NoSuchRoute) = routed head.method head.target ≡ None
 HasRoute head (Err OutOfMemory) = ⊤

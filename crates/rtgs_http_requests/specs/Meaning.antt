@@ -1,4 +1,4 @@
--- What an admitted caller asks for. The path's parameter is judged first, then the body.
+-- What an admitted caller asks for. The path's parameters are judged first, from left to right, then the body.
 use Rattle.std.specs.Prelude.{◌≡◌, ◌≢◌, ⊤, ℕ, ℤ, Bool, List, Result, Ok, Err}
 use Rattle.rtgs_money.specs.Amounts.{IsPostingAmount, IsCredit}
 use Rattle.rtgs_money.specs.Forms.{IsCode, IsReference}
@@ -10,22 +10,28 @@ use Rattle.rtgs_http_requests.specs.declared.heads.bank_route.BankRoute.{BankRou
 use Rattle.rtgs_http_requests.specs.declared.heads.bank_route.BankRoute.TheVariants.{SendOrder, WithdrawOrder}
 use Rattle.rtgs_http_requests.specs.declared.heads.bank_route.BankRoute.TheVariants.{SendBatch}
 use Rattle.rtgs_http_requests.specs.declared.heads.bank_route.BankRoute.TheVariants.{ReadOrder, ReadAccount, ReadQueue}
+use Rattle.rtgs_http_requests.specs.declared.heads.bank_route.BankRoute.TheVariants.{ReadHeld, ReadWaiting}
 use Rattle.rtgs_http_requests.specs.declared.heads.bank_route.BankRoute.TheVariants.{ReadStatement}
 use Rattle.rtgs_http_requests.specs.declared.heads.operator_route.OperatorRoute.{OperatorRoute}
 use Rattle.rtgs_http_requests.specs.declared.heads.operator_route.OperatorRoute.TheVariants.{Post, SetCredit, OpenDay}
 use Rattle.rtgs_http_requests.specs.declared.heads.operator_route.OperatorRoute.TheVariants.{Resolve, CutOff, CloseDay}
 use Rattle.rtgs_http_requests.specs.declared.heads.operator_route.OperatorRoute.TheVariants.{ReadReport, ReadAccounts}
+use Rattle.rtgs_http_requests.specs.declared.heads.operator_route.OperatorRoute.TheVariants.{ReadStatus, ReadQueues}
+use Rattle.rtgs_http_requests.specs.declared.heads.operator_route.OperatorRoute.TheVariants.{ReadOrders, ReadMarks}
+use Rattle.rtgs_http_requests.specs.declared.heads.operator_route.OperatorRoute.TheVariants.{ForBank}
 use Rattle.rtgs_http_requests.specs.declared.admitted.Admitted.TheVariants as admitted
 use Rattle.rtgs_http_requests.specs.declared.asked.Asked.{Asked}
 use Rattle.rtgs_http_requests.specs.declared.asked.Asked.TheVariants.{Submit, Batch, Read}
 use Rattle.rtgs_http_requests.specs.declared.http_fault.HttpFault.{HttpFault}
 use Rattle.rtgs_http_requests.specs.declared.http_fault.HttpFault.TheVariants as fault
+use Rattle.rtgs_book.specs.declared.reading.Reading.{Reading}
 use Rattle.rtgs_book.specs.declared.reading.Reading.TheVariants as reading
+use Rattle.rtgs_http_requests.specs.heads.Parameters.{Parts}
 use Rattle.rtgs_http_requests.specs.Bodies.{ReadsJson}
 use Rattle.rtgs_http_requests.specs.Callers.{Caller}
 use Rattle.rtgs_http_requests.specs.Contents.{FindsContent, HasPosting, HasCredit, HasDate, HasOpening, HasNothing}
 use Rattle.rtgs_http_requests.specs.OrderBody.{OrderValues, HasOrder, SpellsOrder}
-use Rattle.rtgs_http_requests.specs.Spelling.{SpellsReference, SpellsDate}
+use Rattle.rtgs_http_requests.specs.Spelling.{SpellsCode, SpellsReference, SpellsDate}
 use Rattle.rtgs_http_requests.specs.Steps.{Then}
 
 -- what a request may come to
@@ -79,12 +85,12 @@ abbrev pub AsksOrderName : List ℕ → List ℕ → Answer → Type 0
 AsksOrderName caller parameter =
     Then (SpellsReference parameter) (λ reference answer. answer ≡ Ok (Read (reading.Order caller reference)))
 
-abbrev pub AsksStatement : List ℕ → List ℕ → Answer → Type 0
-AsksStatement caller parameter =
-    Then (SpellsDate parameter) (λ date answer. answer ≡ Ok (Read (reading.Statement caller date)))
+-- the reading of the date that the parameter is
+abbrev pub AsksOfDate : (ℕ → Reading) → List ℕ → Answer → Type 0
+AsksOfDate reading_of parameter = Then (SpellsDate parameter) (λ date answer. answer ≡ Ok (Read (reading_of date)))
 
-abbrev pub AsksReport : List ℕ → Answer → Type 0
-AsksReport parameter = Then (SpellsDate parameter) (λ date answer. answer ≡ Ok (Read (reading.Report date)))
+abbrev pub AsksStatement : List ℕ → List ℕ → Answer → Type 0
+AsksStatement caller = AsksOfDate (λ date. reading.Statement caller date)
 
 abbrev pub AsksPosting : List ℕ → Answer → Type 0
 AsksPosting body = Then (ReadsJson body) (λ value. Then (FindsContent HasPosting value) (λ values. IsPostingOf values))
@@ -118,22 +124,30 @@ MeansBank SendBatch caller parameter body answer = AsksBatch caller body answer
 MeansBank ReadOrder caller parameter body answer = AsksOrderName caller parameter answer
 MeansBank ReadAccount caller parameter body answer = answer ≡ Ok (Read (reading.Account caller))
 MeansBank ReadQueue caller parameter body answer = answer ≡ Ok (Read (reading.Queue caller))
+MeansBank ReadHeld caller parameter body answer = answer ≡ Ok (Read (reading.Held caller))
+MeansBank ReadWaiting caller parameter body answer = answer ≡ Ok (Read (reading.Waiting caller))
 MeansBank ReadStatement caller parameter body answer = AsksStatement caller parameter answer
 
--- what the operator asks for
-abbrev pub MeansOperator : OperatorRoute → List ℕ → List ℕ → Answer → Type 0
-MeansOperator Post parameter body answer = AsksPosting body answer
-MeansOperator SetCredit parameter body answer = AsksCredit body answer
-MeansOperator OpenDay parameter body answer = AsksOpening body answer
-MeansOperator Resolve parameter body answer = AsksResolution body answer
-MeansOperator CutOff parameter body answer =
+-- what the operator asks for; in a bank's name, what the bank asks for with what is left of the path
+abbrev pub MeansOperator : OperatorRoute → Parts → List ℕ → Answer → Type 0
+MeansOperator Post parts body answer = AsksPosting body answer
+MeansOperator SetCredit parts body answer = AsksCredit body answer
+MeansOperator OpenDay parts body answer = AsksOpening body answer
+MeansOperator Resolve parts body answer = AsksResolution body answer
+MeansOperator CutOff parts body answer =
     Then (AsksDay body) (λ date given. given ≡ Ok (Submit (command.CutOff date))) answer
-MeansOperator CloseDay parameter body answer =
+MeansOperator CloseDay parts body answer =
     Then (AsksDay body) (λ date given. given ≡ Ok (Submit (command.CloseDay date))) answer
-MeansOperator ReadReport parameter body answer = AsksReport parameter answer
-MeansOperator ReadAccounts parameter body answer = answer ≡ Ok (Read reading.Accounts)
+MeansOperator ReadReport parts body answer = AsksOfDate (λ date. reading.Report date) parts.first answer
+MeansOperator ReadAccounts parts body answer = answer ≡ Ok (Read reading.Accounts)
+MeansOperator ReadStatus parts body answer = answer ≡ Ok (Read reading.Status)
+MeansOperator ReadQueues parts body answer = answer ≡ Ok (Read reading.Queues)
+MeansOperator ReadOrders parts body answer = AsksOfDate (λ date. reading.Orders date) parts.first answer
+MeansOperator ReadMarks parts body answer = AsksOfDate (λ date. reading.Marks date) parts.first answer
+MeansOperator (ForBank route) parts body answer =
+    Then (SpellsCode parts.first) (λ code. MeansBank route code parts.second body) answer
 
 -- what an admitted caller asks for
-abbrev pub Means : Caller → List ℕ → List ℕ → Answer → Type 0
-Means (admitted.Bank route caller) parameter body answer = MeansBank route caller parameter body answer
-Means (admitted.Operator route) parameter body answer = MeansOperator route parameter body answer
+abbrev pub Means : Caller → Parts → List ℕ → Answer → Type 0
+Means (admitted.Bank route caller) parts body answer = MeansBank route caller parts.first body answer
+Means (admitted.Operator route) parts body answer = MeansOperator route parts body answer

@@ -4,6 +4,7 @@ use Rattle.httparse.specs.Grammar.{RequestHead}
 use Rattle.rtgs_http_requests.specs.feeds.Region.{StartsWith}
 use Rattle.rtgs_http_requests.specs.heads.Fields.{HasKey}
 use Rattle.rtgs_http_requests.specs.heads.Heads.{IsGoodHead, fields_of}
+use Rattle.rtgs_http_requests.specs.heads.Parameters.{Parts, taken}
 use Rattle.rtgs_http_requests.specs.heads.Targets.{routed}
 use Rattle.rtgs_http_requests.specs.declared.heads.bank_route.BankRoute.{BankRoute}
 use Rattle.rtgs_http_requests.specs.declared.heads.route.Route.TheVariants.{Bank}
@@ -26,7 +27,7 @@ abbrev pub AfterCaller : Plan → List ℕ → Caller → Answer → Type 0
 AfterCaller plan rest caller =
     Then (λ outcome. outcome ≡ body_length plan.posts plan.length) (λ size.
     Then (HasBody rest size) (λ body.
-    Means caller plan.parameter.now body))
+    Means caller (taken plan.parameters) body))
 
 -- what is asked under a plan
 abbrev pub AfterHead : Plan → CodeOf → List ℕ → Answer → Type 0
@@ -47,11 +48,11 @@ pub record PlanLooksUp (operator input : List ℕ) : Type 0 where
   pub head : RequestHead
   pub declared : Option ℕ
   pub route : BankRoute
-  pub parameter : List ℕ
+  pub parts : Parts
   pub digest : List ℕ
   pub starts : StartsWith input region rest
   pub good : IsGoodHead region head declared
-  pub found : routed head.method head.target ≡ Some (Bank route, parameter)
+  pub found : routed head.method head.target ≡ Some (Bank route, parts)
   pub key : HasKey (fields_of head) (Some digest)
   pub other : digest ≢ operator
 

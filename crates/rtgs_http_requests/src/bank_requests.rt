@@ -31,6 +31,8 @@ pub fn read_bank(
         BankRoute::ReadOrder => read_order_name(caller, parameter),
         BankRoute::ReadAccount => Ok(Asked::Read(Reading::Account { code: caller })),
         BankRoute::ReadQueue => Ok(Asked::Read(Reading::Queue { code: caller })),
+        BankRoute::ReadHeld => Ok(Asked::Read(Reading::Held { code: caller })),
+        BankRoute::ReadWaiting => Ok(Asked::Read(Reading::Waiting { code: caller })),
         BankRoute::ReadStatement => read_statement(caller, parameter),
     }
 }

@@ -22,7 +22,7 @@ pub use crate::admitted::Admitted;
 pub use crate::asked::Asked;
 pub use crate::body::body_length;
 pub use crate::feeds::{BodyFeed, BodyStep, HeadFeed, HeadStep, Truncated};
-pub use crate::heads::{BankRoute, Head, HeadFault, OperatorRoute, Route};
+pub use crate::heads::{BankRoute, Head, HeadFault, OperatorRoute, Parameters, Route};
 pub use crate::http_fault::HttpFault;
 pub use crate::meaning::read_asked;
 pub use crate::plan::Plan;

@@ -1,14 +1,16 @@
 //! What the operator asks for.
 ghost use Rattle.rtgs_http_requests.specs.Meaning.{AsksPosting, IsPostingOf, AsksCredit, SpellsCredit};
-ghost use Rattle.rtgs_http_requests.specs.Meaning.{AsksDay, AsksOpening, SpellsOpening, AsksResolution, AsksReport};
+ghost use Rattle.rtgs_http_requests.specs.Meaning.{AsksDay, AsksOpening, SpellsOpening, AsksResolution};
 ghost use Rattle.rtgs_http_requests.specs.Meaning.{MeansOperator};
+ghost use Rattle.rtgs_http_requests.specs.heads.Parameters.{taken};
 
 use crate::asked::Asked;
+use crate::bank_requests::read_bank;
 use crate::body::read_json;
 use crate::contents::{credit_of, date_of, is_nothing, opening_of, posting_of};
-use crate::heads::OperatorRoute;
+use crate::heads::{OperatorRoute, Parameters};
 use crate::http_fault::HttpFault;
-use crate::spelling::{posting_amount, spell_date};
+use crate::spelling::{posting_amount, spell_code, spell_date};
 use rtgs_book::{Command, NewDay, Reading};
 use rtgs_money::{BusinessDate, Code, Credit, Lexical, Reference};
 use std::alloc::Global;
@@ -17,10 +19,10 @@ use std::alloc::Global;
 pub fn read_operator(
     alloc: Global,
     route: OperatorRoute,
-    parameter: &str,
+    parameters: Parameters,
     body: &[u8],
 ) -> Result<Asked, HttpFault>
-    ensures { MeansOperator route parameter.now body.now result }
+    ensures { MeansOperator route (taken parameters.entry) body.now result }
 {
     match route {
         OperatorRoute::Post => read_posting(alloc, body),
@@ -29,8 +31,25 @@ pub fn read_operator(
         OperatorRoute::Resolve => read_resolution(alloc, body),
         OperatorRoute::CutOff => Ok(Asked::Submit(Command::CutOff(read_day(alloc, body)?))),
         OperatorRoute::CloseDay => Ok(Asked::Submit(Command::CloseDay(read_day(alloc, body)?))),
-        OperatorRoute::ReadReport => read_report(parameter),
         OperatorRoute::ReadAccounts => Ok(Asked::Read(Reading::Accounts)),
+        OperatorRoute::ReadStatus => Ok(Asked::Read(Reading::Status)),
+        OperatorRoute::ReadQueues => Ok(Asked::Read(Reading::Queues)),
+        OperatorRoute::ReadReport => {
+            let date = spell_date(parameters.first)?;
+            Ok(Asked::Read(Reading::Report { date }))
+        }
+        OperatorRoute::ReadOrders => {
+            let date = spell_date(parameters.first)?;
+            Ok(Asked::Read(Reading::Orders { date }))
+        }
+        OperatorRoute::ReadMarks => {
+            let date = spell_date(parameters.first)?;
+            Ok(Asked::Read(Reading::Marks { date }))
+        }
+        OperatorRoute::ForBank(route) => {
+            let code = spell_code(parameters.first)?;
+            read_bank(alloc, route, code, parameters.second, body)
+        }
     }
 }
 
@@ -118,12 +137,4 @@ fn read_resolution(alloc: Global, body: &[u8]) -> Result<Asked, HttpFault>
         return Err(HttpFault::WrongFields);
     }
     Ok(Asked::Submit(Command::Resolve))
-}
-
-// The report that a path asks for.
-fn read_report(parameter: &str) -> Result<Asked, HttpFault>
-    ensures { AsksReport parameter.now result }
-{
-    let date = spell_date(parameter)?;
-    Ok(Asked::Read(Reading::Report { date }))
 }

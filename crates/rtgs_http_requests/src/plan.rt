@@ -2,7 +2,7 @@
 ghost use Rattle.std.specs.Prelude.{IfOk};
 
 use crate::admitted::Admitted;
-use crate::heads::Head;
+use crate::heads::{Head, Parameters};
 use crate::http_fault::HttpFault;
 use rtgs_money::KeyDigest;
 use std::alloc::Global;
@@ -11,8 +11,8 @@ use std::alloc::Global;
 #[derive(Clone, Copy, Debug)]
 pub struct Plan<'a> {
     pub caller: Admitted<KeyDigest>,
-    /// What the route's parameter took of the target. It is empty where the route has none.
-    pub parameter: &'a str,
+    /// What the route's parameters took of the target.
+    pub parameters: Parameters<'a>,
     /// Whether the method is POST.
     pub posts: bool,
     /// The declared length of the body.
@@ -46,7 +46,7 @@ impl<'a> Plan<'a> {
         };
         Ok(Plan {
             caller,
-            parameter: found.1,
+            parameters: found.1,
             posts,
             length: head.length,
         })

@@ -1,4 +1,5 @@
 //! What inputs ask for, where ALFA's key ends with an a and the operator's with an f.
+mod all_queues;
 mod bodies;
 mod callers;
 mod drip;

@@ -22,6 +22,7 @@ mod opening;
 mod order;
 mod participant;
 mod posting;
+mod queue_readings;
 mod readings;
 mod resolution;
 mod resolver_input;

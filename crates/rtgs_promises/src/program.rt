@@ -39,7 +39,7 @@ fn what_is_committed_is_left<S: Alter>()
 ///
 /// The premise is what `run_words` promises of its runs (`Ends`), whatever the subcommand. A run that is refused, or
 /// only reads, is a session without commands. What a server replies to its connections is promise 2.
-// To judge it, read these 222 files: the files of a command; rtgs_promises Program; rtgs_cli Writers, Runs,
+// To judge it, read these 236 files: the files of a command; rtgs_promises Program; rtgs_cli Writers, Runs,
 // files.Touching, files.Printing, imports.Imports, imports.Causes, commands.Commands, readings.Readings,
 // serving.Serving, files.Done, readings.Outcomes, files/touched.rt, files/used.rt, imports/order_file.rt,
 // serving/no_port.rt, serving/service.rt; rtgs_book_file OverFile, FileOnDisk, Opened, Closed, Causes, LockName,
@@ -48,22 +48,23 @@ fn what_is_committed_is_left<S: Alter>()
 // not_started.rt, not_reached.rt, object_count.rt, limits.rt; rtgs_cli_arguments requests.Requests, requests.Words,
 // invocation.rt, requests/request.rt, requests/command_words.rt, requests/reading_words.rt; rtgs_keeper Still,
 // keeper.rt; rtgs_http_server Requests, exchange.Handling, exchange.Exchange, port.rt, request_reader.rt, deadline.rt;
-// rtgs_desk Seen, batches.Batches, Holding, Replies, Readings, batches.Sent; rtgs_book Calm, Run, Session, cores.Cores,
-// Soundness, Ranges, Standings, Refusals, Judgement, Laws, Procedure, fault.rt, reading.rt, rule.rt, cores/cores.rt,
-// account.rt, standing.rt, account_reading.rt; rtgs_cli_lines Lines, Failures, Texts, SentTo, ended.rt, printed.rt,
+// rtgs_desk Seen, batches.Batches, Holding, Replies, Readings, batches.Sent, Queues, Payments; rtgs_book Calm, Run,
+// Session, cores.Cores, Soundness, Ranges, Standings, Refusals, Judgement, Laws, Procedure, fault.rt, reading.rt,
+// rule.rt, cores/cores.rt, account.rt, standing.rt, account_reading.rt, waiting_reading.rt, queue_reading.rt,
+// status.rt, tally.rt, receiver_reading.rt; rtgs_cli_lines Lines, Failures, Texts, SentTo, ended.rt, printed.rt,
 // failure.rt, done.rt; rtgs_order_files Results, OrderFile, BatchFaults, batch_fault.rt, batch_result.rt, limits.rt,
 // columns.rt; rtgs_refusal_texts Texts, kinds.rt, texts.rt; rtgs_rows Tables, Querying, Content, Keeping, Migrating,
 // Fitting, Dues, TableRecords, Rows, numbers.rt, forward.rt, desk_row.rt, resolution_row.rt; rtgs_sql_loading
 // Displaying, Accounts, Loading, Joining; rtgs_http_requests Exchange, Callers, Meaning, Steps, Bodies, heads.Targets,
-// Access, feeds.Region, heads.Heads, heads.Fields, heads.Tables, Contents, OrderBody, Spelling, asked.rt,
-// http_fault.rt, heads/route.rt, feeds/limits.rt, admitted.rt, heads/bank_route.rt, heads/operator_route.rt,
+// Access, feeds.Region, heads.Heads, heads.Parameters, heads.Fields, heads.Tables, Spelling, Contents, OrderBody,
+// asked.rt, http_fault.rt, heads/route.rt, feeds/limits.rt, admitted.rt, heads/bank_route.rt, heads/operator_route.rt,
 // heads/limits.rt; rtgs_ledger Keys, Kinds, Kept; rtgs_sql_queries Displaying, TableQueries, Records; rtgs_sql_columns
 // Tables, Numbers, OneTable; rtgs_tables Migrating, sql_keeper.rt; rtgs_output Sent, writer_failed.rt, text_fault.rt;
 // rtgs_refusals Table, refusal_kind.rt, exit_status.rt; rtgs_money Lexical, Forms, Amounts, Digits, Units, lexical.rt,
 // key.rt, units.rt; rtgs_sql_writes Building; rtgs_laws repeats.Lasting, repeats.Repeats, repeats.Batch, repeats.Once;
-// rtgs_http_bodies desks.Written, desks.Readings, Readings, desks.Accounts, replies.Bodies; rtgs_statements Reads,
-// Texts, Records, Lines, Sums, Tallies, Columns, book_text_fault.rt, line.rt, row.rt, total.rt, sums.rt, kind.rt,
-// party.rt.
+// rtgs_http_bodies desks.Written, desks.Readings, Readings, desks.Accounts, desks.Waiting, desks.Queues, desks.Status,
+// replies.Bodies; rtgs_statements Reads, Texts, Listings, Records, Lines, Sums, Tallies, Columns, book_text_fault.rt,
+// line.rt, row.rt, total.rt, sums.rt, kind.rt, party.rt; rtgs_release Release, lib.rt.
 pub fn a_run_is_a_session<S: Start, O, E>()
     ensures { (writers : Writers O E) (ends : Ended)
         (touched : Traces S (Unopened S S.Start) (Released S S.Start))

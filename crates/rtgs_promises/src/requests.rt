@@ -49,25 +49,27 @@ use std::io::{Read, Write};
 /// the book and the request's bytes, whole or a beginning of it; the commands that were given are those that these
 /// bytes ask for, and the bearer of the key may give them; and the stop that comes then leaves what promise 1 says.
 /// Where the reader fails, nothing was done. So it is with whatever a crash leaves where no desk opens again.
-// To judge it, read these 181 files: the files of a command; rtgs_promises Headline, Keys, sessions.rt; rtgs_desk
-// Holding, Seen, batches.Batches, batches.Sent, Replies, Readings, desk.rt; rtgs_http_server exchange.Serving,
-// exchange.Exchange, exchange.Handling, input.Input, exchange.ReplyMessages, exchange/served.rt,
+// To judge it, read these 195 files: the files of a command; rtgs_promises Headline, Keys, sessions.rt; rtgs_desk
+// Holding, Seen, batches.Batches, batches.Sent, Replies, Readings, Queues, Payments, desk.rt; rtgs_http_server
+// exchange.Serving, exchange.Exchange, exchange.Handling, input.Input, exchange.ReplyMessages, exchange/served.rt,
 // input/reader_failed.rt; rtgs_rows Content, Keeping, Querying, Fitting, Tables, RowLaws, Settling, TableRecords, Dues,
 // Rows, forward.rt, numbers.rt, resolution_row.rt, desk_row.rt; rtgs_book Calm, Soundness, cores.Cores, Session, Run,
 // Laws, Ranges, Procedure, Judgement, Refusals, Standings, fault.rt, rule.rt, cores/cores.rt, account.rt, reading.rt,
-// account_reading.rt, standing.rt; rtgs_keeper Still, keeper.rt; rtgs_sql_columns Blank, Tables, Numbers, OneTable;
-// rtgs_tables Loading, Between, sql_keeper.rt; rtgs_http_bodies replies.Messages, desks.Written, replies.Kinds,
-// Refusals, Statuses, Answers, replies.Texts, replies.Bodies, Readings, desks.Accounts, replies/content_type.rt;
-// rtgs_output Sent, writer_failed.rt; rtgs_records Held, Records, accounts.Accounts, queues.Orders, records.rt,
-// accounts/accounts.rt, queues/orders.rt; rtgs_sql_queries Records, Displaying, TableQueries; rtgs_sql_loading
-// Accounts, Displaying, Joining; rtgs_http_requests Exchange, Access, Callers, Meaning, Steps, Bodies, heads.Targets,
-// feeds.Region, heads.Heads, heads.Fields, Faults, heads.Tables, Contents, OrderBody, Spelling, asked.rt,
-// http_fault.rt, heads/route.rt, feeds/limits.rt, admitted.rt, heads/bank_route.rt, heads/operator_route.rt,
-// heads/limits.rt; rtgs_ledger Keys, Kept, ledger.rt; rtgs_laws repeats.Lives, repeats.Lasting, repeats.Batch,
-// repeats.Repeats, repeats.Once; rtgs_money Forms, Amounts, Lexical, Digits, Units, lexical.rt, key.rt, units.rt;
-// rtgs_order_files Results, BatchFaults, OrderFile, batch_fault.rt, batch_result.rt, columns.rt, limits.rt;
-// rtgs_refusals Table, refusal_kind.rt, exit_status.rt; rtgs_statements Texts, Records, Lines, Sums, Tallies, Columns,
-// line.rt, row.rt, total.rt, sums.rt, kind.rt, party.rt.
+// account_reading.rt, waiting_reading.rt, queue_reading.rt, status.rt, standing.rt, tally.rt, receiver_reading.rt;
+// rtgs_keeper Still, keeper.rt; rtgs_sql_columns Blank, Tables, Numbers, OneTable; rtgs_tables Loading, Between,
+// sql_keeper.rt; rtgs_http_bodies replies.Messages, desks.Written, replies.Kinds, Refusals, Statuses, Answers,
+// replies.Texts, replies.Bodies, Readings, desks.Accounts, desks.Waiting, desks.Queues, desks.Status,
+// replies/content_type.rt; rtgs_output Sent, writer_failed.rt; rtgs_records Held, Records, accounts.Accounts,
+// queues.Orders, records.rt, accounts/accounts.rt, queues/orders.rt; rtgs_sql_queries Records, Displaying,
+// TableQueries; rtgs_sql_loading Accounts, Displaying, Joining; rtgs_http_requests Exchange, Access, Callers, Meaning,
+// Steps, Bodies, heads.Targets, feeds.Region, heads.Heads, heads.Fields, heads.Parameters, Faults, heads.Tables,
+// Spelling, Contents, OrderBody, asked.rt, http_fault.rt, heads/route.rt, feeds/limits.rt, admitted.rt,
+// heads/bank_route.rt, heads/operator_route.rt, heads/limits.rt; rtgs_ledger Keys, Kept, ledger.rt; rtgs_laws
+// repeats.Lives, repeats.Lasting, repeats.Batch, repeats.Repeats, repeats.Once; rtgs_money Forms, Amounts, Lexical,
+// Digits, Units, lexical.rt, key.rt, units.rt; rtgs_order_files Results, BatchFaults, OrderFile, batch_fault.rt,
+// batch_result.rt, columns.rt, limits.rt; rtgs_refusals Table, refusal_kind.rt, exit_status.rt; rtgs_statements Texts,
+// Listings, Records, Lines, Sums, Tallies, Columns, line.rt, row.rt, total.rt, sums.rt, kind.rt, party.rt; rtgs_release
+// Release, lib.rt.
 pub fn serve_and_stop<R: Read, W: Write, S: Alter + Reopen + Drop>(
     alloc: Global,
     desk: Desk<SqlKeeper<S>>,
@@ -101,19 +103,21 @@ pub fn serve_and_stop<R: Read, W: Write, S: Alter + Reopen + Drop>(
 
 /// **Promise 12. A request has one meaning.** What it asks for and its reply are a function of the book and the
 /// request's bytes. Set aside is lack of memory, and for the reply a fault of the store: the status is then 503.
-// To judge it, read these 136 files: the files of a command; rtgs_desk Seen, Holding, batches.Batches, batches.Sent,
-// Replies, Readings; rtgs_http_bodies replies.Messages, desks.Written, replies.Kinds, Refusals, Statuses, Answers,
-// replies.Texts, replies.Bodies, Readings, desks.Accounts, replies/content_type.rt; rtgs_http_server exchange.Exchange,
-// reply_laws.Alike, exchange.Handling, exchange.ReplyMessages; rtgs_http_requests Same, Exchange, Meaning, Callers,
-// Steps, Bodies, heads.Targets, Access, feeds.Region, heads.Heads, heads.Fields, Faults, heads.Tables, Contents,
-// OrderBody, Spelling, http_fault.rt, asked.rt, heads/route.rt, feeds/limits.rt, admitted.rt, heads/bank_route.rt,
-// heads/operator_route.rt, heads/limits.rt; rtgs_ledger Keys, Kept; rtgs_keeper Still, keeper.rt; rtgs_book Calm,
-// Session, cores.Cores, Run, Soundness, Ranges, Laws, Refusals, Procedure, Standings, cores/cores.rt, fault.rt,
-// account.rt, reading.rt, rule.rt, account_reading.rt, standing.rt; rtgs_order_files Results, BatchFaults, OrderFile,
-// batch_fault.rt, batch_result.rt, columns.rt, limits.rt; rtgs_money Forms, Lexical, Amounts, Digits, Units,
-// lexical.rt, key.rt, units.rt; rtgs_laws repeats.Lasting, repeats.Batch, repeats.Repeats, repeats.Once; rtgs_refusals
-// Table, refusal_kind.rt, exit_status.rt; rtgs_statements Texts, Records, Lines, Sums, Tallies, Columns, line.rt,
-// row.rt, total.rt, sums.rt, kind.rt, party.rt.
+// To judge it, read these 150 files: the files of a command; rtgs_desk Seen, Holding, batches.Batches, batches.Sent,
+// Replies, Readings, Queues, Payments; rtgs_http_bodies replies.Messages, desks.Written, replies.Kinds, Refusals,
+// Statuses, Answers, replies.Texts, replies.Bodies, Readings, desks.Accounts, desks.Waiting, desks.Queues,
+// desks.Status, replies/content_type.rt; rtgs_http_server exchange.Exchange, reply_laws.Alike, exchange.Handling,
+// exchange.ReplyMessages; rtgs_http_requests Same, Exchange, Meaning, Callers, Steps, Bodies, heads.Targets, Access,
+// feeds.Region, heads.Heads, heads.Parameters, heads.Fields, Faults, heads.Tables, Spelling, Contents, OrderBody,
+// http_fault.rt, asked.rt, heads/route.rt, feeds/limits.rt, admitted.rt, heads/bank_route.rt, heads/operator_route.rt,
+// heads/limits.rt; rtgs_ledger Keys, Kept; rtgs_keeper Still, keeper.rt; rtgs_book Calm, Session, cores.Cores, Run,
+// Soundness, Ranges, Laws, Refusals, Procedure, Standings, cores/cores.rt, fault.rt, account.rt, reading.rt, rule.rt,
+// account_reading.rt, waiting_reading.rt, queue_reading.rt, status.rt, standing.rt, tally.rt, receiver_reading.rt;
+// rtgs_order_files Results, BatchFaults, OrderFile, batch_fault.rt, batch_result.rt, columns.rt, limits.rt; rtgs_money
+// Forms, Lexical, Amounts, Digits, Units, lexical.rt, key.rt, units.rt; rtgs_laws repeats.Lasting, repeats.Batch,
+// repeats.Repeats, repeats.Once; rtgs_refusals Table, refusal_kind.rt, exit_status.rt; rtgs_statements Texts, Listings,
+// Records, Lines, Sums, Tallies, Columns, line.rt, row.rt, total.rt, sums.rt, kind.rt, party.rt; rtgs_release Release,
+// lib.rt.
 pub fn a_book_and_an_input_have_one_reply<K: Keeper>()
     ensures asked { (operator input : List ℕ) (old : Book) (one other : Seen K) (sent again : Message)
         (first : Handles K.Keeper operator old input one sent)
@@ -131,19 +135,21 @@ pub fn a_book_and_an_input_have_one_reply<K: Keeper>()
 /// **Promise 13. Nobody acts but with his own key.** The commands of a request are those of the operator's key, or
 /// orders and withdrawals of the participant whose key the input carries. Whatever a desk holds, a request changes it
 /// only where it asks for what the bearer of its key may ask.
-// To judge it, read these 137 files: the files of a command; rtgs_promises Keys; rtgs_desk Seen, batches.Batches,
-// Holding, batches.Sent, Replies, Readings; rtgs_http_bodies replies.Messages, desks.Written, Refusals, replies.Kinds,
-// Statuses, Answers, replies.Texts, replies.Bodies, Readings, desks.Accounts, replies/content_type.rt; rtgs_http_server
-// exchange.Exchange, exchange.Handling, exchange.ReplyMessages; rtgs_http_requests Access, Exchange, feeds.Region,
-// heads.Heads, heads.Fields, Callers, Meaning, Steps, Bodies, heads.Targets, Faults, Plans, heads.Tables, Contents,
-// OrderBody, Spelling, asked.rt, http_fault.rt, heads/route.rt, feeds/limits.rt, admitted.rt, heads/limits.rt,
-// heads/bank_route.rt, heads/operator_route.rt; rtgs_ledger Keys, Kept; rtgs_keeper Still, keeper.rt; rtgs_book Calm,
-// cores.Following, Session, cores.Cores, Refusals, Run, Soundness, Ranges, Laws, Procedure, Standings, cores/cores.rt,
-// fault.rt, account.rt, reading.rt, rule.rt, account_reading.rt, standing.rt; rtgs_money Forms, Lexical, Amounts,
-// Digits, Units, lexical.rt, key.rt, units.rt; rtgs_order_files Results, BatchFaults, OrderFile, batch_fault.rt,
-// batch_result.rt, columns.rt, limits.rt; rtgs_laws repeats.Lasting, repeats.Batch, repeats.Repeats, repeats.Once;
-// rtgs_refusals Table, refusal_kind.rt, exit_status.rt; rtgs_statements Texts, Records, Lines, Sums, Tallies, Columns,
-// line.rt, row.rt, total.rt, sums.rt, kind.rt, party.rt.
+// To judge it, read these 151 files: the files of a command; rtgs_promises Keys; rtgs_desk Seen, batches.Batches,
+// Holding, batches.Sent, Replies, Readings, Queues, Payments; rtgs_http_bodies replies.Messages, desks.Written,
+// Refusals, replies.Kinds, Statuses, Answers, replies.Texts, replies.Bodies, Readings, desks.Accounts, desks.Waiting,
+// desks.Queues, desks.Status, replies/content_type.rt; rtgs_http_server exchange.Exchange, exchange.Handling,
+// exchange.ReplyMessages; rtgs_http_requests Access, Exchange, feeds.Region, heads.Heads, heads.Fields, Callers,
+// Meaning, Steps, Bodies, heads.Targets, heads.Parameters, Faults, Plans, heads.Tables, Spelling, Contents, OrderBody,
+// asked.rt, http_fault.rt, heads/route.rt, feeds/limits.rt, admitted.rt, heads/limits.rt, heads/bank_route.rt,
+// heads/operator_route.rt; rtgs_ledger Keys, Kept; rtgs_keeper Still, keeper.rt; rtgs_book Calm, cores.Following,
+// Session, cores.Cores, Refusals, Run, Soundness, Ranges, Laws, Procedure, Standings, cores/cores.rt, fault.rt,
+// account.rt, reading.rt, rule.rt, account_reading.rt, waiting_reading.rt, queue_reading.rt, status.rt, standing.rt,
+// tally.rt, receiver_reading.rt; rtgs_money Forms, Lexical, Amounts, Digits, Units, lexical.rt, key.rt, units.rt;
+// rtgs_order_files Results, BatchFaults, OrderFile, batch_fault.rt, batch_result.rt, columns.rt, limits.rt; rtgs_laws
+// repeats.Lasting, repeats.Batch, repeats.Repeats, repeats.Once; rtgs_refusals Table, refusal_kind.rt, exit_status.rt;
+// rtgs_statements Texts, Listings, Records, Lines, Sums, Tallies, Columns, line.rt, row.rt, total.rt, sums.rt, kind.rt,
+// party.rt; rtgs_release Release, lib.rt.
 pub fn nobody_acts_with_the_key_of_another<K: Keeper>()
     ensures commands { (operator input : List ℕ) (book : Book) (desk : Seen K) (sent : Message)
         (request : Handles K.Keeper operator book input desk sent)
@@ -155,19 +161,21 @@ pub fn nobody_acts_with_the_key_of_another<K: Keeper>()
 
 /// **Promise 13. And nobody reads the rows of others.** Two books that agree in a participant's own rows give the same
 /// reply to each reading that carries its key. Set aside are replies with the status 503.
-// To judge it, read these 135 files: the files of a command; rtgs_desk Seen, Holding, batches.Batches, batches.Sent,
-// Replies, Readings; rtgs_http_bodies replies.Messages, desks.Written, replies.Kinds, Refusals, Statuses, Answers,
-// replies.Texts, replies.Bodies, Readings, desks.Accounts, replies/content_type.rt; rtgs_http_server reply_laws.Own,
-// exchange.Exchange, exchange.Handling, exchange.ReplyMessages; rtgs_http_requests Exchange, Access, Callers, Meaning,
-// Steps, Bodies, heads.Targets, feeds.Region, heads.Heads, heads.Fields, heads.Tables, Faults, Contents, OrderBody,
-// Spelling, asked.rt, http_fault.rt, heads/route.rt, feeds/limits.rt, admitted.rt, heads/bank_route.rt,
-// heads/operator_route.rt, heads/limits.rt; rtgs_ledger Keys, Kept; rtgs_keeper Still, keeper.rt; rtgs_money Forms,
-// Lexical, Amounts, Digits, Units, lexical.rt, key.rt, units.rt; rtgs_order_files Results, OrderFile, BatchFaults,
-// batch_fault.rt, batch_result.rt, columns.rt, limits.rt; rtgs_book Calm, Session, Run, cores.Cores, Laws, Refusals,
-// Soundness, Ranges, Procedure, Standings, reading.rt, cores/cores.rt, fault.rt, account.rt, rule.rt,
-// account_reading.rt, standing.rt; rtgs_laws repeats.Lasting, repeats.Batch, repeats.Repeats, repeats.Once;
-// rtgs_refusals Table, refusal_kind.rt, exit_status.rt; rtgs_statements Texts, Records, Lines, Sums, Tallies, Columns,
-// line.rt, row.rt, total.rt, sums.rt, kind.rt, party.rt.
+// To judge it, read these 149 files: the files of a command; rtgs_desk Seen, Holding, batches.Batches, batches.Sent,
+// Replies, Readings, Queues, Payments; rtgs_http_bodies replies.Messages, desks.Written, replies.Kinds, Refusals,
+// Statuses, Answers, replies.Texts, replies.Bodies, Readings, desks.Accounts, desks.Waiting, desks.Queues,
+// desks.Status, replies/content_type.rt; rtgs_http_server reply_laws.Own, exchange.Exchange, exchange.Handling,
+// exchange.ReplyMessages; rtgs_http_requests Exchange, Access, Callers, Meaning, Steps, Bodies, heads.Targets,
+// feeds.Region, heads.Heads, heads.Fields, heads.Parameters, heads.Tables, Spelling, Faults, Contents, OrderBody,
+// asked.rt, http_fault.rt, heads/route.rt, feeds/limits.rt, admitted.rt, heads/bank_route.rt, heads/operator_route.rt,
+// heads/limits.rt; rtgs_ledger Keys, Kept; rtgs_keeper Still, keeper.rt; rtgs_money Forms, Lexical, Amounts, Digits,
+// Units, lexical.rt, key.rt, units.rt; rtgs_order_files Results, OrderFile, BatchFaults, batch_fault.rt,
+// batch_result.rt, columns.rt, limits.rt; rtgs_book Calm, Session, Run, cores.Cores, Laws, Refusals, Soundness, Ranges,
+// Procedure, Standings, reading.rt, cores/cores.rt, fault.rt, account.rt, rule.rt, account_reading.rt,
+// waiting_reading.rt, queue_reading.rt, status.rt, standing.rt, tally.rt, receiver_reading.rt; rtgs_laws
+// repeats.Lasting, repeats.Batch, repeats.Repeats, repeats.Once; rtgs_refusals Table, refusal_kind.rt, exit_status.rt;
+// rtgs_statements Texts, Listings, Records, Lines, Sums, Tallies, Columns, line.rt, row.rt, total.rt, sums.rt, kind.rt,
+// party.rt; rtgs_release Release, lib.rt.
 pub fn nobody_reads_the_rows_of_others<K: Keeper>()
     ensures { (operator input code : List ℕ) (one other : Book) (first second : Seen K) (sent again : Message)
         (reading : Reading) → AgreeFor code one other

@@ -7,8 +7,10 @@ use Rattle.std.proofs.lemmas.List.{take_more, append-nil}
 use Rattle.rtgs_money.specs.Date.{date_text}
 use Rattle.rtgs_statements.specs.declared.line.Line.{Line}
 use Rattle.rtgs_statements.specs.declared.line.Line.TheVariants.{StatementOf, Record, Sum, ReportOf, Account, Orders}
-use Rattle.rtgs_statements.specs.declared.line.Line.TheVariants.{Marks}
+use Rattle.rtgs_statements.specs.declared.line.Line.TheVariants.{Marks, OrdersHeader, ListedOrder, MarksHeader}
+use Rattle.rtgs_statements.specs.declared.line.Line.TheVariants.{ListedMark}
 use Rattle.rtgs_statements.specs.Lines.{row_columns}
+use Rattle.rtgs_statements.specs.Listings.{csv_line}
 use Rattle.rtgs_output.specs.Sent.{AppendsPart}
 use Rattle.rtgs_statements.specs.Texts.{sum_columns, count_columns, value_columns, account_columns, line_text, text_of}
 
@@ -24,6 +26,22 @@ none-begun o text some = (0, some, appends-none o)
 has_end : (text : List ℕ) (b : ℕ) (more : List ℕ) → 0 < length (text ++ b ∷ more)
 has_end text b more = omega (arith, length-append text (b ∷ more))
 
+-- a line of fields ends with a line feed
+pub csv_line-ends : (fields : List (List ℕ)) → (before : List ℕ) × (csv_line fields ≡ before ++ 10 ∷ [])
+unfolding csv_line
+csv_line-ends [] = ([], refl)
+csv_line-ends (field ∷ []) = (field, refl)
+csv_line-ends (field ∷ next ∷ fields) =
+    let rest = csv_line-ends (next ∷ fields) in (
+      field ++ 44 ∷ rest.0,
+      ap (λ t. field ++ 44 ∷ t) rest.1 ∙ sym (append_assoc field (44 ∷ rest.0) (10 ∷ [])),
+    )
+
+csv_line-has_bytes : (fields : List (List ℕ)) → 0 < length (csv_line fields)
+csv_line-has_bytes fields =
+    let ends = csv_line-ends fields in
+    omega (arith, has_end ends.0 10 [], ap length ends.1)
+
 -- a line has bytes, its end at least
 pub line-has_bytes : (line : Line) → 0 < length (line_text line)
 unfolding row_columns sum_columns count_columns value_columns account_columns
@@ -34,6 +52,10 @@ line-has_bytes (ReportOf date) = has_end (codes "report " ++ date_text date) 10 
 line-has_bytes (Account code sums) = has_end _ 10 []
 line-has_bytes (Orders standing count value) = has_end _ 10 []
 line-has_bytes (Marks count) = has_end _ 10 []
+line-has_bytes OrdersHeader = csv_line-has_bytes _
+line-has_bytes (ListedOrder order) = csv_line-has_bytes _
+line-has_bytes MarksHeader = csv_line-has_bytes _
+line-has_bytes (ListedMark mark) = csv_line-has_bytes _
 
 -- lines have bytes, those of the first line at least
 pub lines-have_bytes : (line : Line) (lines : List Line) → 0 < length (text_of (line ∷ lines))

@@ -1,5 +1,6 @@
 pub mod Agreement
 pub mod Begins
+pub mod Closings
 pub mod Days
 pub mod Groups
 pub mod Growth

@@ -12,14 +12,15 @@ use Rattle.rtgs_statements.specs.declared.book_text_fault.BookTextFault.{BookTex
 use Rattle.rtgs_statements.specs.declared.book_text_fault.BookTextFault.TheVariants.{Refused, Text}
 use Rattle.rtgs_statements.specs.declared.line.Line.{Line}
 use Rattle.rtgs_statements.specs.declared.line.Line.TheVariants.{StatementOf, Record, Sum, ReportOf, Account, Orders}
-use Rattle.rtgs_statements.specs.declared.line.Line.TheVariants.{Marks}
+use Rattle.rtgs_statements.specs.declared.line.Line.TheVariants.{Marks, OrdersHeader, ListedOrder, MarksHeader}
+use Rattle.rtgs_statements.specs.declared.line.Line.TheVariants.{ListedMark}
 use Rattle.rtgs_statements.specs.declared.row.Row.{Row}
 use Rattle.rtgs_statements.specs.Lines.{row_columns, row_of_posting, row_of_order, row_text}
 use Rattle.rtgs_statements.specs.Reads.{IsWholeLines, AppendsWholeLines, LeavesWholeLines}
 use Rattle.rtgs_statements.specs.Rows.{is_to, is_shown_to, posting_row, order_row}
 use Rattle.rtgs_statements.specs.Texts.{sum_columns, count_columns, value_columns, account_columns, line_text, text_of}
 use Rattle.rtgs_statements.proofs.Begins.{appends-both}
-use Rattle.rtgs_statements.proofs.Growth.{appends-none}
+use Rattle.rtgs_statements.proofs.Growth.{appends-none, csv_line-ends}
 
 wholes-append : (one two : List ℕ) → IsWholeLines one → IsWholeLines two → IsWholeLines (one ++ two)
 wholes-append one two first (inl none) =
@@ -37,6 +38,10 @@ line-whole (ReportOf date) = inr (codes "report " ++ date_text date, refl)
 line-whole (Account code sums) = inr (_, refl)
 line-whole (Orders standing count value) = inr (_, refl)
 line-whole (Marks count) = inr (_, refl)
+line-whole OrdersHeader = inr (csv_line-ends _)
+line-whole (ListedOrder order) = inr (csv_line-ends _)
+line-whole MarksHeader = inr (csv_line-ends _)
+line-whole (ListedMark mark) = inr (csv_line-ends _)
 
 -- so do lines one after another
 pub lines-whole : (lines : List Line) → IsWholeLines (text_of lines)

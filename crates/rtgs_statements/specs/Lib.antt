@@ -1,6 +1,8 @@
+pub mod Closing
 pub mod Columns
 pub mod Days
 pub mod Lines
+pub mod Listings
 pub mod Reads
 pub mod Records
 pub mod Rows

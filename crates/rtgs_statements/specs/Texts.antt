@@ -1,4 +1,4 @@
--- The lines of a statement and of a report, and their texts.
+-- The lines of a statement, of a report and of what is listed of a date, and their texts.
 use Rattle.std.specs.Prelude.{ℕ, List, [], ◌∷◌, ◌++◌, map, filter, length, decimal, codes}
 use Rattle.rtgs_money.specs.Date.{date_text}
 use Rattle.rtgs_money.specs.Units.{units_text}
@@ -11,13 +11,15 @@ use Rattle.rtgs_book.specs.Lookup.{codes_of}
 use Rattle.rtgs_book.specs.Standings.{stands, word_of}
 use Rattle.rtgs_statements.specs.declared.line.Line.{Line}
 use Rattle.rtgs_statements.specs.declared.line.Line.TheVariants.{StatementOf, Record, Sum, ReportOf, Account, Orders}
-use Rattle.rtgs_statements.specs.declared.line.Line.TheVariants.{Marks}
+use Rattle.rtgs_statements.specs.declared.line.Line.TheVariants.{Marks, OrdersHeader, ListedOrder, MarksHeader}
+use Rattle.rtgs_statements.specs.declared.line.Line.TheVariants.{ListedMark}
 use Rattle.rtgs_book.specs.declared.standing.Standing.{Standing}
 use Rattle.rtgs_statements.specs.declared.sums.Sums.{Sums}
 use Rattle.rtgs_statements.specs.declared.total.Total.{Total}
 use Rattle.rtgs_statements.specs.declared.total.Total.TheVariants.{Posted, Sent, Received, Net}
 use Rattle.rtgs_statements.specs.Columns.{left_in, right_in}
 use Rattle.rtgs_statements.specs.Lines.{row_of_posting, row_of_order, row_text}
+use Rattle.rtgs_statements.specs.Listings.{orders_header, order_line, marks_header, mark_line}
 use Rattle.rtgs_statements.specs.Records.{postings_on_statement, orders_on_statement, postings_on, orders_on, marks_on}
 use Rattle.rtgs_statements.specs.Sums.{amount_of, sums_of, net}
 use Rattle.rtgs_statements.specs.Tallies.{reported_standings}
@@ -55,6 +57,10 @@ line_text (Account code sums) = account_columns code (units_text sums.posted) (u
     (units_text sums.received)
 line_text (Orders standing count value) = value_columns (word_of standing) count (units_text value)
 line_text (Marks count) = count_columns (codes "marks") count
+line_text OrdersHeader = orders_header
+line_text (ListedOrder order) = order_line order
+line_text MarksHeader = marks_header
+line_text (ListedMark mark) = mark_line mark
 
 -- the texts of the lines, one after another
 abbrev pub text_of : List Line → List ℕ

@@ -1,16 +1,18 @@
 //! Laws of the sums and of the lines. Each function does nothing: its contract is the law.
-ghost use Rattle.std.specs.Prelude.{◌≡◌, ◌≤◌, ◌<◌, ◌^◌, ℕ, ℤ, unsigned_abs, List, length, IfSome};
+ghost use Rattle.std.specs.Prelude.{◌≡◌, ◌≤◌, ◌<◌, ◌^◌, ◌+ℤ◌, ℕ, ℤ, unsigned_abs, List, length, IfSome};
 ghost use Rattle.rtgs_book.specs.declared.limits.TheConstants.{LARGEST_NUMBER};
 ghost use Rattle.rtgs_money.specs.Amounts.{IsAmount, IsPostingAmount};
 ghost use Rattle.rtgs_money.specs.Forms.{IsCode, IsReference};
 ghost use Rattle.rtgs_book.specs.declared.book.Book.{Book};
 ghost use Rattle.rtgs_book.specs.declared.order.Order.{Order};
 ghost use Rattle.rtgs_book.specs.declared.posting.Posting.{Posting};
+ghost use Rattle.rtgs_book.specs.Balance.{balance};
 ghost use Rattle.rtgs_book.specs.IntSum.{int_sum_by};
 ghost use Rattle.rtgs_book.specs.Lookup.{codes_of};
 ghost use Rattle.rtgs_book.specs.Soundness.{CodesRise, PartiesAreKnown};
 ghost use Rattle.rtgs_statements.specs.declared.line.Line.{Line};
 ghost use Rattle.rtgs_statements.specs.declared.total.Total.{Total};
+ghost use Rattle.rtgs_statements.specs.Closing.{closing, moved_since};
 ghost use Rattle.rtgs_statements.specs.Lines.{mark_of, row_of_posting, row_of_order, row_text};
 ghost use Rattle.rtgs_statements.specs.Records.{postings_on_statement, orders_on_statement, postings_on, orders_on};
 ghost use Rattle.rtgs_statements.specs.Sums.{cents_of, sent, received, sums_of, net};
@@ -57,4 +59,11 @@ pub fn sums_have_41_characters()
 pub fn texts_have_bytes()
     ensures statement { (book : Book) (code : List ℕ) (date : ℕ) → 0 < length (statement book code date) }
     ensures report { (book : Book) (date : ℕ) → 0 < length (report book date) }
+{}
+
+/// What an account held at the end of a date, with what the days since moved, is its balance. So an earlier balance is
+/// worked back from the present one by the records since.
+pub fn balance_is_worked_back()
+    ensures { (book : Book) (code : List ℕ) (date : ℕ)
+        → (closing book code date +ℤ moved_since book code date) ≡ balance book code }
 {}

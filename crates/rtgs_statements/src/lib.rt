@@ -1,5 +1,5 @@
-//! A participant's statement and the day report: the records of a date that each takes, and its text, exact to the
-//! byte.
+//! A participant's statement, the day report, and the orders and the marks of a date: the records of the date that each
+//! takes, and its text, exact to the byte.
 #![tactic(auto)]
 
 mod book_text_fault;
@@ -8,6 +8,9 @@ mod kind;
 pub mod laws;
 mod line;
 mod lines;
+mod listed;
+mod listed_marks;
+mod listed_orders;
 mod next_records;
 mod ordered;
 mod parts;
@@ -24,6 +27,8 @@ mod total;
 mod totals;
 
 pub use crate::book_text_fault::BookTextFault;
+pub use crate::listed_marks::write_marks;
+pub use crate::listed_orders::write_orders;
 pub use crate::report::write_report;
 pub use crate::source::Source;
 pub use crate::statement::write_statement;

@@ -1,18 +1,19 @@
-//! Lines of a statement and of a report.
+//! Lines of a statement, of a report and of what is listed of a date.
 ghost use Rattle.std.specs.Prelude.{◌≡◌, IfOk, string_bytes};
 ghost use Rattle.std.specs.Str.{IsAscii};
 ghost use Rattle.rtgs_money.specs.Units.{units_text};
 ghost use Rattle.rtgs_statements.specs.Texts.{line_text, sum_columns, count_columns, value_columns, account_columns};
 
+use crate::listed::{mark_line, order_line};
 use crate::row::Row;
 use crate::sums::Sums;
 use crate::total::Total;
-use rtgs_book::Standing;
+use rtgs_book::{Mark, Order, Standing};
 use rtgs_money::{BusinessDate, Code, Units};
 use std::alloc::{AllocError, Global};
 use std::fmt::Write;
 
-/// One line of a statement or of a report.
+/// One line of a statement, of a report or of what is listed of a date.
 #[derive(Clone, Copy, Debug, PartialEq, Eq)]
 pub enum Line {
     /// The first line of a statement.
@@ -29,6 +30,14 @@ pub enum Line {
     Orders(Standing, usize, Units),
     /// How many marks there are.
     Marks(usize),
+    /// The first line of a list of orders.
+    OrdersHeader,
+    /// An order in a list.
+    ListedOrder(Order),
+    /// The first line of a list of marks.
+    MarksHeader,
+    /// A mark in a list.
+    ListedMark(Mark),
 }
 
 impl Line {
@@ -46,9 +55,17 @@ impl Line {
                 value_columns(alloc, standing.word(), count, value.text().as_str())
             }
             Line::Marks(count) => count_columns(alloc, "marks", count),
+            Line::OrdersHeader => String::from_str(alloc, ORDERS_HEADER),
+            Line::ListedOrder(order) => order_line(alloc, &order),
+            Line::MarksHeader => String::from_str(alloc, MARKS_HEADER),
+            Line::ListedMark(mark) => mark_line(alloc, &mark),
         }
     }
 }
+
+const ORDERS_HEADER: &str = "number,sender,reference,receiver,amount,due,state,mark\n";
+
+const MARKS_HEADER: &str = "number,count,value\n";
 
 // A participant's code and its sums.
 fn account_text(alloc: Global, code: &Code, sums: Sums) -> Result<String, AllocError>

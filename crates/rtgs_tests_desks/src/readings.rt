@@ -31,7 +31,7 @@ fn statement_of<K: Keeper>(
     }
 }
 
-// A bank's account, its queue and its statement.
+// A bank's account, its queue, its held orders and its statement.
 fn bank_of<K: Keeper>(
     alloc: Global,
     desk: &mut Desk<K>,
@@ -40,12 +40,13 @@ fn bank_of<K: Keeper>(
 ) -> Result<String, Fail> {
     let account = desk.account(bank);
     let queue = desk.queue_of(bank);
+    let held = desk.held_of(bank);
     let statement = statement_of(alloc, desk, bank, date)?;
-    Ok(format!(in alloc; "{account:?} {queue:?} {statement}")?)
+    Ok(format!(in alloc; "{account:?} {queue:?} {held:?} {statement}")?)
 }
 
-/// What a desk says of ALFA, BETA and GAMA, and of a day: its report, and the account, the queue and the statement of
-/// each.
+/// What a desk says of ALFA, BETA and GAMA, and of a day: its report, and the account, the queue, the held orders
+/// and the statement of each.
 pub fn seen_of<K: Keeper>(alloc: Global, desk: &mut Desk<K>, day: &str) -> Result<String, Fail> {
     let date = BusinessDate::read(day.as_bytes())?;
     let mut text = report_of(alloc, desk, date)?;

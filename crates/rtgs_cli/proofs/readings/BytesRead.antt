@@ -36,10 +36,20 @@ fails_unread g book (reading.Order sender reference) desk text (known, inr fails
 fails_unread g book (reading.Account code) desk text fails = fails
 fails_unread g book reading.Accounts desk text fails = fails
 fails_unread g book (reading.Queue code) desk text fails = fails
+fails_unread g book (reading.Held code) desk text fails = fails
+fails_unread g book (reading.Waiting code) desk text fails = fails
+fails_unread g book reading.Queues desk text fails = fails
+fails_unread g book reading.Status desk text fails = fails
 fails_unread g book (reading.Statement code date) desk text (known, fails) =
     let fault = fails.1 in
     cc
 fails_unread g book (reading.Report date) desk text fails =
+    let fault = fails.1 in
+    cc
+fails_unread g book (reading.Orders date) desk text fails =
+    let fault = fails.1 in
+    cc
+fails_unread g book (reading.Marks date) desk text fails =
     let fault = fails.1 in
     cc
 
@@ -55,11 +65,23 @@ fails_alike V g book (reading.Order sender reference) desk why (known, inr fails
 fails_alike V g book (reading.Account code) desk why fails = fails
 fails_alike V g book reading.Accounts desk why fails = fails
 fails_alike V g book (reading.Queue code) desk why fails = fails
+fails_alike V g book (reading.Held code) desk why fails = fails
+fails_alike V g book (reading.Waiting code) desk why fails = fails
+fails_alike V g book reading.Queues desk why fails = fails
+fails_alike V g book reading.Status desk why fails = fails
 fails_alike V g book (reading.Statement code date) desk why (known, fails) =
     let fault = fails.1 in
     let same : why ≡ StoreFault = cc in
     (known, (fails.0, ap Err same))
 fails_alike V g book (reading.Report date) desk why fails =
+    let fault = fails.1 in
+    let same : why ≡ StoreFault = cc in
+    (fails.0, ap Err same)
+fails_alike V g book (reading.Orders date) desk why fails =
+    let fault = fails.1 in
+    let same : why ≡ StoreFault = cc in
+    (fails.0, ap Err same)
+fails_alike V g book (reading.Marks date) desk why fails =
     let fault = fails.1 in
     let same : why ≡ StoreFault = cc in
     (fails.0, ap Err same)
@@ -73,8 +95,9 @@ module _ {K U C : Type 0} (file : OverFile K U C) {V : Type 0} (bytes_of : V →
     did = λ honest book held.
         let it = did.did honest book held in (
           it.0,
-          by book (text_wanted book asked) (subst (λ read. Tells bytes_of (text_wanted book asked) read
-              ⊎ ReadingFails file.keeper book asked left read) is it.1),
+          λ choice greatest. by book (text_wanted book choice asked)
+              (subst (λ read. Tells bytes_of (text_wanted book choice asked) read
+              ⊎ ReadingFails file.keeper book asked left read) is (it.1 choice greatest)),
         );
   }
     where
@@ -91,8 +114,9 @@ module _ {K U C : Type 0} (file : OverFile K U C) {V : Type 0} (bytes_of : V →
     did = λ honest book held.
         let it = did.did honest book held in (
           it.0,
-          by book (text_wanted book asked) (subst (λ read. Tells bytes_of (text_wanted book asked) read
-              ⊎ ReadingFails file.keeper book asked left read) is it.1),
+          λ choice greatest. by book (text_wanted book choice asked)
+              (subst (λ read. Tells bytes_of (text_wanted book choice asked) read
+              ⊎ ReadingFails file.keeper book asked left read) is (it.1 choice greatest)),
         );
   }
     where

@@ -17,8 +17,14 @@ gathered (reading.Order sender reference) other = refl
 gathered (reading.Account code) other = refl
 gathered reading.Accounts other = refl
 gathered (reading.Queue code) other = refl
+gathered (reading.Held code) other = refl
+gathered (reading.Waiting code) other = refl
+gathered reading.Queues other = refl
+gathered reading.Status other = refl
 gathered (reading.Statement code date) other = absurd (other code date refl)
 gathered (reading.Report date) other = refl
+gathered (reading.Orders date) other = refl
+gathered (reading.Marks date) other = refl
 
 module _ {A K U C F P N : Type 0} (file : OverFile K U C) (touched : Touched A U C (Used F P N)) {asked other : Reading}
     (same : asked ≡ other) where

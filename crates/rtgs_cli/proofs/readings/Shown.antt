@@ -4,6 +4,7 @@ use Rattle.std.proofs.Common.{◌≡◌, ◌⊎◌, ℕ, List, Option, Result, O
 use Rattle.std.specs.Bool.{⊤}
 use Rattle.std.specs.Result.{IfOk, IfErr}
 use Rattle.std.proofs.lemmas.Result.{IfOk-at_ok}
+use Rattle.rtgs_book.specs.Choice.{Choice, IsGreatest}
 use Rattle.rtgs_book.specs.declared.book.Book.{Book}
 use Rattle.rtgs_book.specs.declared.reading.Reading.{Reading}
 use Rattle.rtgs_book.specs.declared.refusal.Refusal.{Refusal}
@@ -54,8 +55,8 @@ module _ {K U C : Type 0} (file : OverFile K U C) {opened lent left finished : S
 
   pub was_read : {V : Type 0} (text_of : V → List ℕ) (reading : Reading) (read : Result V Refusal)
       → Promises (λ book. StillHolds file.keeper book left)
-      → Promises (λ book. Tells text_of (text_wanted book reading) read ⊎ ReadingFails file.keeper book reading left
-      read)
+      → Promises (λ book. (choice : Choice) → IsGreatest book choice
+      → Tells text_of (text_wanted book choice reading) read ⊎ ReadingFails file.keeper book reading left read)
       → IsRead file text_of reading read finished
   was_read text_of reading read stands answered = subst (IsRead file text_of reading read) (sym same)
       (is_done _ (λ was_honest book held. (stands was_honest book held, answered was_honest book held)))

@@ -1,6 +1,7 @@
 -- What a run that shows a reading did with the desk over the file of its book, what it has to print, why it is refused,
 -- and what it leaves on standard output.
 use Rattle.std.specs.Prelude.{◌≡◌, ◌⊎◌, ℕ, ⊤, Bool, true, false, List, Option, None, Result, Ok, Err}
+use Rattle.rtgs_book.specs.Choice.{Choice, IsGreatest}
 use Rattle.rtgs_book.specs.declared.book.Book.{Book}
 use Rattle.rtgs_book.specs.declared.reading.Reading.{Reading}
 use Rattle.rtgs_book.specs.declared.reading.Reading.TheVariants as reading
@@ -31,11 +32,12 @@ is_gathered (reading.Statement code date) = false
 is_gathered asked = true
 
 module _ {K U C : Type 0} (file : OverFile K U C) where
-  -- The text that is wanted of the book was read, or what refuses it; or the store failed. Nothing was done to the
-  -- book. `text_of` gives the bytes of what was read.
+  -- The text that is wanted of the book, with its greatest choice, was read, or what refuses it; or the store failed.
+  -- Nothing was done to the book. `text_of` gives the bytes of what was read.
   abbrev pub IsRead : {V : Type 0} → (V → List ℕ) → Reading → Result V Refusal → Seen K → Type 0
   IsRead text_of reading read left = IsDone file left (λ book. StillHolds file.keeper book left
-      × (Tells text_of (text_wanted book reading) read ⊎ ReadingFails file.keeper book reading left read))
+      × ((choice : Choice) → IsGreatest book choice
+      → Tells text_of (text_wanted book choice reading) read ⊎ ReadingFails file.keeper book reading left read))
 
   -- The statement that is wanted of the book was written, or a beginning of it before memory ran out, or the store
   -- or the writer failed; or what refuses it came, and nothing was written. Nothing was done to the book.

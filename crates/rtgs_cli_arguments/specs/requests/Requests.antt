@@ -15,6 +15,8 @@ use Rattle.rtgs_cli_arguments.specs.declared.requests.command_words.CommandWords
 use Rattle.rtgs_cli_arguments.specs.declared.requests.reading_words.ReadingWords.{ReadingWords}
 use Rattle.rtgs_cli_arguments.specs.declared.requests.reading_words.ReadingWords.TheVariants.{Order, Account, Accounts}
 use Rattle.rtgs_cli_arguments.specs.declared.requests.reading_words.ReadingWords.TheVariants.{Queue, Statement, Report}
+use Rattle.rtgs_cli_arguments.specs.declared.requests.reading_words.ReadingWords.TheVariants.{Held, Waiting, Queues}
+use Rattle.rtgs_cli_arguments.specs.declared.requests.reading_words.ReadingWords.TheVariants.{Status, Orders, Marks}
 use Rattle.rtgs_cli_arguments.specs.declared.requests.request.Request.{Request}
 use Rattle.rtgs_cli_arguments.specs.declared.requests.request.Request.TheVariants.{Make, Migrate, Submit, Import, Read}
 use Rattle.rtgs_cli_arguments.specs.declared.requests.request.Request.TheVariants.{Serve}
@@ -54,9 +56,15 @@ ReadsReading (Order code reference) result = IsMadeOf (ReadsOrderName code.now r
 ReadsReading (Account code) result = IsMadeOf (ReadsCode code.now) (λ code. reading.Account code) result
 ReadsReading Accounts result = result ≡ Ok reading.Accounts
 ReadsReading (Queue code) result = IsMadeOf (ReadsCode code.now) (λ code. reading.Queue code) result
+ReadsReading (Held code) result = IsMadeOf (ReadsCode code.now) (λ code. reading.Held code) result
+ReadsReading (Waiting code) result = IsMadeOf (ReadsCode code.now) (λ code. reading.Waiting code) result
+ReadsReading Queues result = result ≡ Ok reading.Queues
+ReadsReading Status result = result ≡ Ok reading.Status
 ReadsReading (Statement code date) result = IsMadeOf (ReadsStatement code.now date.now)
     (λ read. reading.Statement read.0 read.1) result
 ReadsReading (Report date) result = IsMadeOf (ReadsDate date.now) (λ day. reading.Report day) result
+ReadsReading (Orders date) result = IsMadeOf (ReadsDate date.now) (λ day. reading.Orders day) result
+ReadsReading (Marks date) result = IsMadeOf (ReadsDate date.now) (λ day. reading.Marks day) result
 
 -- what the words ask for, or the refusal of the first word that is not of its form, and nothing else
 abbrev pub ReadsRequest : Words → Result JudgedRequest Lexical → Type 0

@@ -12,8 +12,14 @@ pub enum ReadingWords<'a> {
     Account { code: &'a str },
     Accounts,
     Queue { code: &'a str },
+    Held { code: &'a str },
+    Waiting { code: &'a str },
+    Queues,
+    Status,
     Statement { code: &'a str, date: &'a str },
     Report { date: &'a str },
+    Orders { date: &'a str },
+    Marks { date: &'a str },
 }
 
 impl ReadingWords<'_> {
@@ -35,6 +41,16 @@ impl ReadingWords<'_> {
                 let code = read_code(code)?;
                 Ok(Reading::Queue { code })
             }
+            ReadingWords::Held { code } => {
+                let code = read_code(code)?;
+                Ok(Reading::Held { code })
+            }
+            ReadingWords::Waiting { code } => {
+                let code = read_code(code)?;
+                Ok(Reading::Waiting { code })
+            }
+            ReadingWords::Queues => Ok(Reading::Queues),
+            ReadingWords::Status => Ok(Reading::Status),
             ReadingWords::Statement { code, date } => {
                 let (code, date) = read_statement(code, date)?;
                 Ok(Reading::Statement { code, date })
@@ -42,6 +58,14 @@ impl ReadingWords<'_> {
             ReadingWords::Report { date } => {
                 let date = read_date(date)?;
                 Ok(Reading::Report { date })
+            }
+            ReadingWords::Orders { date } => {
+                let date = read_date(date)?;
+                Ok(Reading::Orders { date })
+            }
+            ReadingWords::Marks { date } => {
+                let date = read_date(date)?;
+                Ok(Reading::Marks { date })
             }
         }
     }

@@ -77,6 +77,22 @@ $ names queue --help
 = Shows a participant's queued orders, as JSON
 = Usage: desk queue <FILE> <CODE>
 status 0 helped
+$ names status --help
+= Shows the day, what waits in all and the numbers that come next, as JSON
+= Usage: desk status <FILE>
+status 0 helped
+$ names queues --help
+= Shows all queues and what a resolution would settle of each, as JSON
+= Usage: desk queues <FILE>
+status 0 helped
+$ names waiting --help
+= Shows what a participant's first queued order lacks, as JSON
+= Usage: desk waiting <FILE> <CODE>
+status 0 helped
+$ names held --help
+= Shows a participant's orders that are held until their due dates, as JSON
+= Usage: desk held <FILE> <CODE>
+status 0 helped
 $ names order --help
 = Shows an order of a participant, as JSON
 = Usage: desk order <FILE> <CODE> <REFERENCE>
@@ -88,6 +104,14 @@ status 0 helped
 $ names report --help
 = Shows the business day of all participants
 = Usage: desk report <FILE> <DATE>
+status 0 helped
+$ names orders --help
+= Shows each order of a date, as CSV
+= Usage: desk orders <FILE> <DATE>
+status 0 helped
+$ names marks --help
+= Shows each mark of a date, as CSV
+= Usage: desk marks <FILE> <DATE>
 status 0 helped
 $ names serve --help
 = Serves connections over HTTP, one after the other
@@ -111,7 +135,7 @@ fn each_subcommand_has_its_own_help(rt: HostRuntime) -> Result<(), Fail> {
 /// The version of the tables is that of a new book, or else what is inserted has no value, which is refused.
 const VERSIONS: &str = "
 $ names --version
-> desk 0.13.0, tables 3, rattle-kit-
+> desk 0.14.0, tables 3, rattle-kit-
 status 0 helped
 $ desk init @
 > initialised

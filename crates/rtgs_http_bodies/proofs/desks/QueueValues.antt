@@ -29,7 +29,8 @@ use Rattle.rtgs_book.specs.declared.account_reading.AccountReading.{AccountReadi
 use Rattle.rtgs_http_bodies.specs.desks.Accounts.{QueuedValuesFit}
 
 -- some of the orders pay at most the greatest amount each
-taken_bounded : (is_in : Order → Bool) (orders : List Order) → AllByRecursion (λ (o : Order). IsAmount o.amount) orders
+pub taken_bounded : (is_in : Order → Bool) (orders : List Order)
+    → AllByRecursion (λ (o : Order). IsAmount o.amount) orders
     → value_of (filter is_in orders) ≤ Amount.MAX * length (filter is_in orders)
 taken_bounded is_in [] h = omega arith
 taken_bounded is_in (order ∷ orders) h = by (is_in order) (taken_bounded is_in orders h.1)
@@ -41,7 +42,7 @@ taken_bounded is_in (order ∷ orders) h = by (is_in order) (taken_bounded is_in
     by false rest = rest
 
 -- what holds of each participant's code holds of one that is looked up
-at_known : (P : List ℕ → Type 0) (code : List ℕ) (participants : List Participant) (found : Participant)
+pub at_known : (P : List ℕ → Type 0) (code : List ℕ) (participants : List Participant) (found : Participant)
     → find (has_code code) participants ≡ Some found
     → AllByRecursion P (map (λ (p : Participant). p.code) participants) → P code
 at_known P code [] found e all = absurd (cc)
@@ -61,7 +62,7 @@ queued_waits Withdrawn e = absurd (cc)
 queued_waits Rejected e = absurd (cc)
 
 -- a queue is no longer than the orders of its sender that wait
-queue_within : (book : Book) (code : List ℕ) → length (queue book code) ≤ length (waiting book code)
+pub queue_within : (book : Book) (code : List ℕ) → length (queue book code) ≤ length (waiting book code)
 unfolding queue waiting
 queue_within book code =
     filter_shorter (λ o. is_queued o && bytes_eq o.sender code) (λ o. is_waiting o && bytes_eq o.sender code)
@@ -71,20 +72,20 @@ queue_within book code =
     wider true b c f e = rw (f refl) e
     wider false b c f e = absurd (cc)
 
-abbrev IsShort : Book → List ℕ → Type 0
+abbrev pub IsShort : Book → List ℕ → Type 0
 IsShort book code = length (waiting book code) ≤ LONGEST_QUEUE
 
-known_short : (book : Book) (code : List ℕ) (found : Participant) → IsSound book
+pub known_short : (book : Book) (code : List ℕ) (found : Participant) → IsSound book
     → participant_of book code ≡ Some found → IsShort book code
 unfolding participant_of codes_of
 known_short book code found sound e = at_known (IsShort book) code book.participants found e sound.queues.short
 
-queue_bounded : (book : Book) (code : List ℕ) → Fits book
+pub queue_bounded : (book : Book) (code : List ℕ) → Fits book
     → value_of (queue book code) ≤ Amount.MAX * length (queue book code)
 unfolding queue
 queue_bounded book code fits = taken_bounded _ book.orders fits.orders
 
-value_fits : (book : Book) (code : List ℕ) → Fits book → IsShort book code
+pub value_fits : (book : Book) (code : List ℕ) → Fits book → IsShort book code
     → FitsSigned w64 (pos (value_of (queue book code)))
 value_fits book code fits short =
     fits_signed_from_abs w64 (pos (value_of (queue book code)))

@@ -11,6 +11,7 @@ use Rattle.rtgs_desk.specs.Holding.{Holds, IsLeft}
 use Rattle.rtgs_desk.specs.Readings.{if_known}
 use Rattle.rtgs_desk.specs.Seen.{Seen}
 use Rattle.rtgs_output.specs.Sent.{AppendsPart}
+use Rattle.rtgs_statements.specs.Listings.{orders_text, marks_text}
 use Rattle.rtgs_statements.specs.Texts.{statement, report}
 use Rattle.rtgs_statements.specs.declared.book_text_fault.BookTextFault.{BookTextFault}
 use Rattle.rtgs_statements.specs.declared.book_text_fault.BookTextFault.TheVariants.{Refused, Text}
@@ -21,6 +22,12 @@ statement_wanted book code date = if_known (participant_of book code) (λ partic
 
 abbrev pub report_wanted : Book → ℕ → Result (List ℕ) Refusal
 report_wanted book date = Ok (report book date)
+
+abbrev pub orders_wanted : Book → ℕ → Result (List ℕ) Refusal
+orders_wanted book date = Ok (orders_text book date)
+
+abbrev pub marks_wanted : Book → ℕ → Result (List ℕ) Refusal
+marks_wanted book date = Ok (marks_text book date)
 
 -- What is wanted is written whole, or refused with nothing written. In place of a text can come lack of memory, a fault
 -- of the store or one of the writer, after a beginning of the text; in place of a refusal nothing can.

@@ -6,7 +6,7 @@ ghost use Rattle.serde_json.specs.Written.{compact_text};
 ghost use Rattle.rtgs_http_bodies.specs.desks.Accounts.{account_data, account_with, phase_name};
 ghost use Rattle.rtgs_http_bodies.specs.replies.Messages.{json_message};
 
-use crate::members::{with_signed, with_text, with_whole};
+use crate::members::{in_64_bits, with_signed, with_text, with_whole};
 use crate::replies::{ContentType, Reply};
 use http::StatusCode;
 use rtgs_book::{AccountReading, Phase};
@@ -39,13 +39,6 @@ pub(in crate::desks) fn queued_in_64_bits(reading: &AccountReading) -> i64
     ensures { FitsSigned w64 reading.now.queued_value → result ≡ reading.now.queued_value }
 {
     in_64_bits(reading.queued_value.cents())
-}
-
-// This many cents, where 64 bits hold them, and else the most that they hold.
-fn in_64_bits(cents: i128) -> i64
-    ensures { FitsSigned w64 cents → result ≡ cents }
-{
-    i64::try_from(cents).unwrap_or(i64::MAX)
 }
 
 // The JSON value of an account, with the date once a day was opened.

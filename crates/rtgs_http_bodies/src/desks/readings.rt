@@ -2,20 +2,33 @@
 //! instead, by `write_statement`.)
 ghost use Rattle.std.specs.Prelude.{◌≡◌, ◌≢◌, ◌⊎◌, ◌++◌, ◌∷◌, [], true, Ok, Err, None, IfOk};
 ghost use Rattle.rtgs_book.specs.declared.book.Book.{Book};
+ghost use Rattle.rtgs_book.specs.Choice.{Choice, IsGreatest};
 ghost use Rattle.rtgs_book.specs.declared.refusal.Refusal.{Refusal};
 ghost use Rattle.rtgs_book.specs.Lookup.{participant_of};
 ghost use Rattle.rtgs_desk.specs.Holding.{Holds, TellsFaults};
-ghost use Rattle.rtgs_desk.specs.Readings.{Tells, account_answer, accounts_answer, order_answer, queue_answer};
+ghost use Rattle.rtgs_desk.specs.Queues.{queues_answer};
+ghost use Rattle.rtgs_desk.specs.Readings.{Tells, account_answer, accounts_answer, held_answer, order_answer};
+ghost use Rattle.rtgs_desk.specs.Readings.{queue_answer, status_answer, waiting_answer};
 ghost use Rattle.rtgs_http_bodies.specs.Readings.{order_data, queue_data};
 ghost use Rattle.rtgs_http_bodies.specs.desks.Accounts.{account_data, accounts_data};
 ghost use Rattle.rtgs_http_bodies.specs.desks.Readings.{ReadingFails, json_line, text_wanted};
+ghost use Rattle.rtgs_http_bodies.specs.desks.Queues.{queues_data};
+ghost use Rattle.rtgs_http_bodies.specs.desks.Status.{status_data};
+ghost use Rattle.rtgs_http_bodies.specs.desks.Waiting.{held_list_data, waiting_data};
 ghost use Rattle.rtgs_http_bodies.specs.desks.Written.{IsLost, LeavesBook, statement_wanted, report_wanted};
 ghost use Rattle.rtgs_http_bodies.specs.desks.Written.{refusal_of_text};
 
 use crate::desks::account::account_text;
 use crate::desks::accounts::accounts_text;
-use crate::desks::laws::{all_queued_values_fit, queued_values_fit};
+use crate::desks::laws::{
+    all_queue_sums_fit, all_queued_values_fit, queued_values_fit, status_values_fit,
+    waiting_values_fit,
+};
+use crate::desks::listings::{marks_text, orders_text};
+use crate::desks::queues::queues_text;
+use crate::desks::status::status_text;
 use crate::desks::texts::{write_report, write_statement};
+use crate::desks::waiting::{held_text, waiting_text};
 use crate::{order_text, queue_text};
 use rtgs_book::{Reading, Refusal};
 use rtgs_desk::Desk;
@@ -24,16 +37,18 @@ use rtgs_money::{BusinessDate, Code, Reference};
 use rtgs_statements::BookTextFault;
 use std::alloc::{AllocError, Global};
 
-/// The text of a reading, as the book that the desk holds has it: a statement, a report, or JSON and a line feed.
-/// Refused as the desk refuses the reading, or for lack of memory. The readings of an order, a statement and a report
-/// ask the store, and can meet a fault of it, except for a code that nobody has. Nothing is done to the book.
+/// The text of a reading, as the book that the desk holds has it: a statement, a report, the orders or the marks of a
+/// date, or JSON and a line feed. Refused as the desk refuses the reading, or for lack of memory. The readings of an
+/// order, a statement and a date ask the store, and can meet a fault of it, except for a code that nobody has. Nothing
+/// is done to the book.
 pub fn text_of<K: Keeper>(
     alloc: Global,
     desk: &mut Desk<K>,
     reading: &Reading,
 ) -> Result<Vec<u8>, Refusal>
     ensures answered { K.is_honest desk.new.keeper → (book : Book) → Holds K.Keeper desk.old book
-        → Tells (λ text. text.items) (text_wanted book reading.now) result
+        → (choice : Choice) → IsGreatest book choice
+        → Tells (λ text. text.items) (text_wanted book choice reading.now) result
         ⊎ ReadingFails K.Keeper book reading.now desk.new result }
     ensures faults { TellsFaults K.Keeper desk.old desk.new result }
     // A reading does nothing to the book: the desk holds it unless the store failed, and a crash leaves it and no
@@ -46,8 +61,14 @@ pub fn text_of<K: Keeper>(
         Reading::Account { code } => account_line(alloc, desk, &code),
         Reading::Accounts => accounts_line(alloc, desk),
         Reading::Queue { code } => queue_line(alloc, desk, &code),
+        Reading::Held { code } => held_line(alloc, desk, &code),
+        Reading::Waiting { code } => waiting_line(alloc, desk, &code),
+        Reading::Queues => queues_line(alloc, desk),
+        Reading::Status => status_line(alloc, desk),
         Reading::Statement { code, date } => statement_text(alloc, desk, &code, date),
         Reading::Report { date } => report_text(alloc, desk, date),
+        Reading::Orders { date } => orders_text(alloc, desk, date),
+        Reading::Marks { date } => marks_text(alloc, desk, date),
     }
 }
 
@@ -113,6 +134,61 @@ fn queue_line<K: Keeper>(alloc: Global, desk: &Desk<K>, code: &Code) -> Result<V
     Ok(ended(queue_text(alloc, &orders)?)?)
 }
 
+// What is shown of held orders, as a line.
+fn held_line<K: Keeper>(alloc: Global, desk: &Desk<K>, code: &Code) -> Result<Vec<u8>, Refusal>
+    ensures answered { (book : Book) → Holds K.Keeper desk.now book
+        → Tells (λ text. text.items) (json_line held_list_data (held_answer book code.now)) result }
+    ensures failed { K.has_failed desk.now.keeper ≡ true → result ≡ Err Refusal.Failed }
+    ensures only_failed { result ≡ Err Refusal.Failed → K.has_failed desk.now.keeper ≡ true }
+    ensures no_fault { result ≢ Err Refusal.StoreFault }
+{
+    let orders = desk.held_of(code)?;
+    Ok(ended(held_text(alloc, &orders)?)?)
+}
+
+// What is shown of why orders wait, as a line.
+fn waiting_line<K: Keeper>(alloc: Global, desk: &Desk<K>, code: &Code) -> Result<Vec<u8>, Refusal>
+    ensures answered { (book : Book) → Holds K.Keeper desk.now book
+        → Tells (λ text. text.items) (json_line waiting_data (waiting_answer book code.now)) result }
+    ensures failed { K.has_failed desk.now.keeper ≡ true → result ≡ Err Refusal.Failed }
+    ensures only_failed { result ≡ Err Refusal.Failed → K.has_failed desk.now.keeper ≡ true }
+    ensures no_fault { result ≢ Err Refusal.StoreFault }
+{
+    desk.holds_a_sound_book();
+    waiting_values_fit();
+    let reading = desk.waiting_of(code)?;
+    Ok(ended(waiting_text(alloc, &reading)?)?)
+}
+
+// What is shown of all queues, as a line.
+fn queues_line<K: Keeper>(alloc: Global, desk: &Desk<K>) -> Result<Vec<u8>, Refusal>
+    ensures answered { (book : Book) (choice : Choice) → Holds K.Keeper desk.now book → IsGreatest book choice
+        → Tells (λ text. text.items) (json_line (queues_data book.day) (queues_answer book choice)) result }
+    ensures failed { K.has_failed desk.now.keeper ≡ true → result ≡ Err Refusal.Failed }
+    ensures only_failed { result ≡ Err Refusal.Failed → K.has_failed desk.now.keeper ≡ true }
+    ensures no_fault { result ≢ Err Refusal.StoreFault }
+{
+    desk.holds_a_sound_book();
+    all_queue_sums_fit();
+    let day = desk.day()?;
+    let queues = desk.queues()?;
+    Ok(ended(queues_text(alloc, day, &queues)?)?)
+}
+
+// What is shown of the whole desk, as a line.
+fn status_line<K: Keeper>(alloc: Global, desk: &Desk<K>) -> Result<Vec<u8>, Refusal>
+    ensures answered { (book : Book) → Holds K.Keeper desk.now book
+        → Tells (λ text. text.items) (json_line status_data (status_answer book)) result }
+    ensures failed { K.has_failed desk.now.keeper ≡ true → result ≡ Err Refusal.Failed }
+    ensures only_failed { result ≡ Err Refusal.Failed → K.has_failed desk.now.keeper ≡ true }
+    ensures no_fault { result ≢ Err Refusal.StoreFault }
+{
+    desk.holds_a_sound_book();
+    status_values_fit();
+    let status = desk.status()?;
+    Ok(ended(status_text(alloc, &status)?)?)
+}
+
 // The text with a line feed behind it.
 fn ended(text: Vec<u8>) -> Result<Vec<u8>, AllocError>
     ensures { IfOk result (λ line. line.items ≡ text.items ++ 10 ∷ []) }
@@ -160,8 +236,8 @@ pub fn report_text<K: Keeper>(
     }
 }
 
-// Why a text was not made in memory. A writer in memory fails where memory is refused, and nowhere else.
-fn refusal_of(fault: BookTextFault) -> Refusal
+/// Why a text was not made in memory. A writer in memory fails where memory is refused, and nowhere else.
+pub(in crate::desks) fn refusal_of(fault: BookTextFault) -> Refusal
     ensures { result ≡ refusal_of_text fault }
 {
     match fault {

@@ -5,7 +5,7 @@ ghost use Rattle.std.specs.Prelude.{◌≡◌};
 #[derive(Clone, Copy, Debug, PartialEq, Eq)]
 pub enum ContentType {
     Json,
-    /// The result file of a batch.
+    /// The result file of a batch, or the orders or the marks of a date.
     Csv,
     /// A statement or a report.
     Plain,

@@ -2,6 +2,7 @@
 use Rattle.std.proofs.Common.{◌≡◌, ◌<◌, ◌-◌, ◌^◌, ◌==◌, ℕ, List, [], ◌∷◌, ◌&&◌, not, nat_le, slice_index, Bool, true}
 use Rattle.std.proofs.Common.{false, cond, length, take, drop, arith, Option, Some, None, Result, Ok, IsUtf8, sym}
 use Rattle.std.proofs.Common.{ap, subst, ◌∙◌}
+use Rattle.std.specs.Prelude.{⊤}
 use Rattle.std.proofs.Math.Dec.{leb}
 use Rattle.std.proofs.lemmas.Bool.{leb-true}
 use Rattle.std.specs.Result.{result_ok}
@@ -13,9 +14,9 @@ use Rattle.std.proofs.lemmas.Str.Ascii.{IsAscii-nil, IsAscii-cons}
 use Rattle.std.proofs.lemmas.Str.Parse.{IsNumeralModel, numerals_by_value, tells_digits, parse_gives}
 use Rattle.std.proofs.lemmas.Str.Parse.{digits_value_short}
 use Rattle.std.proofs.lemmas.Fmt.{IsAscii-from_digits}
-use Rattle.matchit.specs.Params.{Shows, walk, part_of, wild_from, wild_stop}
+use Rattle.matchit.specs.Params.{Shows, walk, part_of}
 use Rattle.rtgs_http_requests.specs.heads.Fields.{IsShortNumber}
-use Rattle.rtgs_http_requests.specs.heads.Tables.{first_part}
+use Rattle.rtgs_http_requests.specs.heads.Parameters.{Parts, first_part, parts_of}
 use Rattle.rtgs_http_requests.specs.declared.heads.limits.TheConstants.{MOST_DIGITS}
 use Rattle.rtgs_http_requests.specs.heads.Targets.{is_plain_byte, is_plain_target}
 use Rattle.rtgs_lists.proofs.Bools.{and_left, and_right}
@@ -39,23 +40,36 @@ part_ascii path start end h = by (leb start end && leb end (length path))
     by true = IsAscii-take (drop start path) (end - start) (IsAscii-drop path start h)
     by false = IsAscii-nil
 
-first_ascii : (pattern text path : List ℕ) (names : List (ℕ × ℕ)) → IsAscii path
-    → IsAscii (first_part (walk pattern text path names 0 0))
-first_ascii pattern text path [] h = IsAscii-nil
-first_ascii pattern text path (name ∷ names) h =
-    part_ascii path (wild_from pattern (length path) 0 0).1 (wild_stop pattern (wild_from pattern (length path) 0 0).0
-    path (wild_from pattern (length path) 0 0).1) h
+-- what each name took is of plain bytes
+abbrev pub AreAscii : List (List ℕ × List ℕ) → Type 0
+AreAscii [] = ⊤
+AreAscii (part ∷ parts) = IsAscii part.1 × AreAscii parts
 
--- what is shown of the first parameter is what it took, where the path is of plain bytes
-pub first_shown : (pattern text path : List ℕ) (names : List (ℕ × ℕ)) (given rest : List (List ℕ × List ℕ))
-    (part : List ℕ × List ℕ) (shown : List ℕ)
-    → IsAscii path → given ≡ walk pattern text path names 0 0 → given ≡ part ∷ rest → Shows part.1 shown
-    → shown ≡ first_part (walk pattern text path names 0 0)
-first_shown pattern text path names given rest part shown ascii e first shows =
-    let same : first_part (walk pattern text path names 0 0) ≡ part.1 = ap (λ ps. first_part ps) (sym e ∙ first) in
-    let P : List ℕ → Type 0 = λ t. IsUtf8 t in
-    let text : IsUtf8 part.1 = subst P same (IsUtf8-from_ascii _ (first_ascii pattern text path names ascii)) in
-    shows text ∙ sym same
+pub walk_ascii : (pattern text path : List ℕ) (names : List (ℕ × ℕ)) (token at : ℕ) → IsAscii path
+    → AreAscii (walk pattern text path names token at)
+walk_ascii pattern text path [] token at h = tt
+walk_ascii pattern text path (name ∷ names) token at h =
+    (part_ascii path _ _ h, walk_ascii pattern text path names _ _ h)
+
+-- what is shown of plain bytes is these
+ascii_shown : (part shown : List ℕ) → IsAscii part → Shows part shown → shown ≡ part
+ascii_shown part shown ascii shows = shows (IsUtf8-from_ascii part ascii)
+
+-- what is shown of the first name, and of the first of the others, is what they took
+pub parts_shown : (given rest : List (List ℕ × List ℕ)) (one : List ℕ × List ℕ) (first second : List ℕ)
+    → AreAscii given → given ≡ one ∷ rest → Shows one.1 first → (AreAscii rest → second ≡ first_part rest)
+    → ◌≡◌ {A = Parts} (record { first = first; second = second }) (parts_of given)
+parts_shown given rest one first second ascii e shows follows =
+    let all : AreAscii (one ∷ rest) = subst (λ parts. AreAscii parts) e ascii in
+    let left : List ℕ → Parts = λ part. record { first = part; second = second } in
+    let right : List ℕ → Parts = λ part. record { first = one.1; second = part } in
+    ap left (ascii_shown one.1 first all.0 shows) ∙ ap right (follows all.1) ∙ sym (ap (λ parts. parts_of parts) e)
+
+pub next_shown : (rest last : List (List ℕ × List ℕ)) (other : List ℕ × List ℕ) (second : List ℕ)
+    → rest ≡ other ∷ last → Shows other.1 second → AreAscii rest → second ≡ first_part rest
+next_shown rest last other second e shows ascii =
+    let all : AreAscii (other ∷ last) = subst (λ parts. AreAscii parts) e ascii in
+    ascii_shown other.1 second all.0 shows ∙ sym (ap (λ parts. first_part parts) e)
 
 plain_small : (b : ℕ) → is_plain_byte b ≡ true → b < 128
 plain_small b e =

@@ -12,10 +12,15 @@ use Rattle.rtgs_http_requests.specs.declared.heads.route.Route.TheVariants.{Bank
 use Rattle.rtgs_http_requests.specs.declared.heads.bank_route.BankRoute.TheVariants.{SendOrder, WithdrawOrder}
 use Rattle.rtgs_http_requests.specs.declared.heads.bank_route.BankRoute.TheVariants.{SendBatch}
 use Rattle.rtgs_http_requests.specs.declared.heads.bank_route.BankRoute.TheVariants.{ReadOrder, ReadAccount, ReadQueue}
+use Rattle.rtgs_http_requests.specs.declared.heads.bank_route.BankRoute.TheVariants.{ReadHeld, ReadWaiting}
 use Rattle.rtgs_http_requests.specs.declared.heads.bank_route.BankRoute.TheVariants.{ReadStatement}
 use Rattle.rtgs_http_requests.specs.declared.heads.operator_route.OperatorRoute.TheVariants.{Post, SetCredit, OpenDay}
 use Rattle.rtgs_http_requests.specs.declared.heads.operator_route.OperatorRoute.TheVariants.{Resolve, CutOff, CloseDay}
 use Rattle.rtgs_http_requests.specs.declared.heads.operator_route.OperatorRoute.TheVariants.{ReadReport, ReadAccounts}
+use Rattle.rtgs_http_requests.specs.declared.heads.operator_route.OperatorRoute.TheVariants.{ReadStatus, ReadQueues}
+use Rattle.rtgs_http_requests.specs.declared.heads.operator_route.OperatorRoute.TheVariants.{ReadOrders, ReadMarks}
+use Rattle.rtgs_http_requests.specs.declared.heads.operator_route.OperatorRoute.TheVariants.{ForBank}
+use Rattle.rtgs_http_requests.specs.heads.Parameters.{Parts, parts_of}
 
 -- a path, with a name in braces where a parameter stands, and its route
 abbrev pub Paths : Type 0
@@ -27,19 +32,34 @@ bank_reading_paths =
     (codes "/orders/{reference}", Bank ReadOrder)
     ∷ (codes "/account", Bank ReadAccount)
     ∷ (codes "/queue", Bank ReadQueue)
+    ∷ (codes "/held", Bank ReadHeld)
+    ∷ (codes "/waiting", Bank ReadWaiting)
     ∷ (codes "/statements/{date}", Bank ReadStatement)
     ∷ []
 
--- what the operator reads
-abbrev pub operator_reading_paths : Paths
-operator_reading_paths =
+-- what the operator reads of the desk and of a date
+abbrev pub desk_reading_paths : Paths
+desk_reading_paths =
     (codes "/desk/report/{date}", Operator ReadReport)
     ∷ (codes "/desk/accounts", Operator ReadAccounts)
+    ∷ (codes "/desk/status", Operator ReadStatus)
+    ∷ (codes "/desk/queues", Operator ReadQueues)
+    ∷ (codes "/desk/orders/{date}", Operator ReadOrders)
+    ∷ (codes "/desk/marks/{date}", Operator ReadMarks)
+    ∷ []
+
+-- what the operator reads of a bank
+abbrev pub reading_paths_of_banks : Paths
+reading_paths_of_banks =
+    (codes "/desk/orders/{code}/{reference}", Operator (ForBank ReadOrder))
+    ∷ (codes "/desk/queue/{code}", Operator (ForBank ReadQueue))
+    ∷ (codes "/desk/held/{code}", Operator (ForBank ReadHeld))
+    ∷ (codes "/desk/statements/{code}/{date}", Operator (ForBank ReadStatement))
     ∷ []
 
 -- the paths under GET
 abbrev pub read_paths : Paths
-read_paths = bank_reading_paths ++ operator_reading_paths
+read_paths = bank_reading_paths ++ (desk_reading_paths ++ reading_paths_of_banks)
 
 -- what a bank does with its orders
 abbrev pub order_paths : Paths
@@ -65,9 +85,16 @@ day_paths =
     ∷ (codes "/desk/close", Operator CloseDay)
     ∷ []
 
+-- what the operator does with a bank's orders, in the bank's name
+abbrev pub order_paths_of_banks : Paths
+order_paths_of_banks =
+    (codes "/desk/orders/{code}/{reference}/withdraw", Operator (ForBank WithdrawOrder))
+    ∷ (codes "/desk/batches/{code}", Operator (ForBank SendBatch))
+    ∷ []
+
 -- the paths under POST
 abbrev pub command_paths : Paths
-command_paths = order_paths ++ (account_paths ++ day_paths)
+command_paths = order_paths ++ (account_paths ++ (day_paths ++ order_paths_of_banks))
 
 -- these rows, and that of this path, if it can be read
 abbrev pub with_path : Result Scan InsertError → Route → RowsOf (RouteOf Route) → RowsOf (RouteOf Route)
@@ -83,13 +110,8 @@ with_paths (path ∷ paths) rows = with_path (parse_route path.0) path.1 (with_p
 abbrev pub holding : Paths → RowsOf (RouteOf Route)
 holding paths = with_paths paths []
 
--- what the first parameter took
-abbrev pub first_part : List (List ℕ × List ℕ) → List ℕ
-first_part [] = []
-first_part (part ∷ parts) = part.1
-
--- the route whose path the target matches, and what its parameter took of the target
-abbrev pub found_in : RowsOf (RouteOf Route) → List ℕ → Option (Route × List ℕ)
+-- the route whose path the target matches, and what its parameters took of the target
+abbrev pub found_in : RowsOf (RouteOf Route) → List ℕ → Option (Route × Parts)
 found_in rows target =
-    option_map (λ found. (found.value, first_part (walk found.pattern found.text target found.names 0 0)))
+    option_map (λ found. (found.value, parts_of (walk found.pattern found.text target found.names 0 0)))
     (first rows target)

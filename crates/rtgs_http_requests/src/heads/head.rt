@@ -8,6 +8,7 @@ ghost use Rattle.rtgs_http_requests.specs.heads.Targets.{is_post, GivesRoute};
 use crate::heads::fields::{key_of, length_of};
 use crate::heads::head_fault::HeadFault;
 use crate::heads::limits::MOST_FIELDS;
+use crate::heads::parameters::Parameters;
 use crate::heads::route::Route;
 use crate::heads::routing::route_of;
 use httparse::Status;
@@ -53,10 +54,9 @@ impl<'a> Head<'a> {
         })
     }
 
-    /// The row of the routes that it asks for, and what the route's parameter took of the target: nothing where the
-    /// route has none. `NoSuchRoute` where no row has its method and target. `OutOfMemory` where the routes found no
-    /// room.
-    pub fn route(&self, alloc: Global) -> Result<(Route, &'a str), HeadFault>
+    /// The row of the routes that it asks for, and what the route's parameters took of the target. `NoSuchRoute` where
+    /// no row has its method and target. `OutOfMemory` where the routes found no room.
+    pub fn route(&self, alloc: Global) -> Result<(Route, Parameters<'a>), HeadFault>
         ensures { GivesRoute self.now.method.now self.now.target.now result }
     {
         route_of(alloc, self.method, self.target)

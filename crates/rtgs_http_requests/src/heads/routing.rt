@@ -3,29 +3,30 @@ ghost use Rattle.std.specs.Prelude.{◌≡◌, true, false, None, IfSome, option
 ghost use Rattle.std.specs.List.{list_all};
 ghost use Rattle.std.specs.Str.{IsAscii};
 ghost use Rattle.matchit.specs.Params.{walk};
-ghost use Rattle.rtgs_http_requests.specs.heads.Tables.{first_part, found_in};
+ghost use Rattle.rtgs_http_requests.specs.heads.Parameters.{parts_of, taken};
+ghost use Rattle.rtgs_http_requests.specs.heads.Tables.{found_in};
 ghost use Rattle.rtgs_http_requests.specs.heads.Targets.{is_plain_byte, is_plain_target, GivesRoute};
 
 use crate::heads::head_fault::HeadFault;
+use crate::heads::parameters::Parameters;
 use crate::heads::route::Route;
 use crate::heads::tables::{command_routes, read_routes};
 use crate::heads::whole_paths::whole_route;
 use matchit::{Params, Router};
 use std::alloc::Global;
 
-/// The row for a method and a target, with what its parameter took of the target: one segment of the path that is not
-/// empty. `NoSuchRoute` where there is no row; so for each other method, and for a target that is not in origin form
-/// without a query (RFC 9112, section 3.2.1), or has a byte that is no visible character. `OutOfMemory` where the
-/// routes found no room.
+/// The row for a method and a target, with what its parameters took of the target. `NoSuchRoute` where there is no row;
+/// so for each other method, and for a target that is not in origin form without a query (RFC 9112, section 3.2.1), or
+/// has a byte that is no visible character. `OutOfMemory` where the routes found no room.
 pub fn route_of<'a>(
     alloc: Global,
     method: &[u8],
     target: &'a [u8],
-) -> Result<(Route, &'a str), HeadFault>
+) -> Result<(Route, Parameters<'a>), HeadFault>
     ensures { GivesRoute method.now target.now result }
 {
     if let Some(route) = whole_route(method, target) {
-        return Ok((route, ""));
+        return Ok((route, Parameters::NONE));
     }
     let Some(path) = plain_target(target) else {
         return Err(HeadFault::NoSuchRoute);
@@ -43,26 +44,30 @@ pub fn route_of<'a>(
     find(&router, path).ok_or(HeadFault::NoSuchRoute)
 }
 
-// The row of the router that the path matches, and what its first parameter took.
-fn find<'p>(router: &Router<Route>, path: &'p str) -> Option<(Route, &'p str)>
+// The row of the router that the path matches, and what its parameters took.
+fn find<'p>(router: &Router<Route>, path: &'p str) -> Option<(Route, Parameters<'p>)>
     requires { IsAscii path.now }
-    ensures { option_map (λ (route, part). (route, part.now)) result ≡ found_in router.now path.now }
+    ensures { option_map (λ (route, parameters). (route, taken parameters)) result ≡ found_in router.now path.now }
 {
     match router.at(path) {
-        Ok(found) => Some((*found.value, first_part(&found.params))),
+        Ok(found) => Some((*found.value, parts_of(&found.params))),
         Err(_) => None,
     }
 }
 
-// What the first parameter took of the path, or nothing where there is none.
-fn first_part<'p>(params: &Params<'_, 'p>) -> &'p str
+// What the first two parameters took of the path.
+fn parts_of<'p>(params: &Params<'_, 'p>) -> Parameters<'p>
     requires { IsAscii params.now.path.now }
-    ensures { result.now ≡ first_part (walk params.now.pattern.now params.now.text.now params.now.path.now
+    ensures { taken result ≡ parts_of (walk params.now.pattern.now params.now.text.now params.now.path.now
         params.now.names.now 0 0) }
 {
-    match params.iter().next() {
-        Some((_, part)) => part,
-        None => "",
+    let mut parts = params.iter();
+    let Some((_, first)) = parts.next() else {
+        return Parameters::NONE;
+    };
+    match parts.next() {
+        Some((_, second)) => Parameters { first, second },
+        None => Parameters { first, second: "" },
     }
 }
 

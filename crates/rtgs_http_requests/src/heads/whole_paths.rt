@@ -2,7 +2,8 @@
 //!
 //! Most requests ask for one of these. A path that stands in the tables alone is found as well, but the table has to be
 //! made for it.
-ghost use Rattle.std.specs.Prelude.{◌≡◌, true, Some, [], IfSome};
+ghost use Rattle.std.specs.Prelude.{◌≡◌, true, Some, IfSome};
+ghost use Rattle.rtgs_http_requests.specs.heads.Parameters.{no_parts};
 ghost use Rattle.rtgs_http_requests.specs.heads.Tables.{holding, read_paths, command_paths, found_in};
 ghost use Rattle.rtgs_http_requests.specs.heads.Targets.{is_plain_target, routed};
 
@@ -13,7 +14,7 @@ use crate::heads::route::Route;
 /// The row for a method and a target that is the whole path of the row. None where there is none, or a table has to
 /// tell.
 pub fn whole_route(method: &[u8], target: &[u8]) -> Option<Route>
-    ensures { IfSome result (λ route. routed method.now target.now ≡ Some (route, [])) }
+    ensures { IfSome result (λ route. routed method.now target.now ≡ Some (route, no_parts)) }
 {
     if method == b"GET".as_slice() {
         return whole_reading(target);
@@ -27,7 +28,7 @@ pub fn whole_route(method: &[u8], target: &[u8]) -> Option<Route>
 // The row under GET.
 fn whole_reading(target: &[u8]) -> Option<Route>
     ensures { IfSome result (λ route. (is_plain_target target.now ≡ true)
-        × (found_in (holding read_paths) target.now ≡ Some (route, []))) }
+        × (found_in (holding read_paths) target.now ≡ Some (route, no_parts))) }
 {
     if target == b"/account".as_slice() {
         return Some(Route::Bank(BankRoute::ReadAccount));
@@ -35,8 +36,20 @@ fn whole_reading(target: &[u8]) -> Option<Route>
     if target == b"/queue".as_slice() {
         return Some(Route::Bank(BankRoute::ReadQueue));
     }
+    if target == b"/held".as_slice() {
+        return Some(Route::Bank(BankRoute::ReadHeld));
+    }
+    if target == b"/waiting".as_slice() {
+        return Some(Route::Bank(BankRoute::ReadWaiting));
+    }
     if target == b"/desk/accounts".as_slice() {
         return Some(Route::Operator(OperatorRoute::ReadAccounts));
+    }
+    if target == b"/desk/status".as_slice() {
+        return Some(Route::Operator(OperatorRoute::ReadStatus));
+    }
+    if target == b"/desk/queues".as_slice() {
+        return Some(Route::Operator(OperatorRoute::ReadQueues));
     }
     None
 }
@@ -44,7 +57,7 @@ fn whole_reading(target: &[u8]) -> Option<Route>
 // The row under POST.
 fn whole_command(target: &[u8]) -> Option<Route>
     ensures { IfSome result (λ route. (is_plain_target target.now ≡ true)
-        × (found_in (holding command_paths) target.now ≡ Some (route, []))) }
+        × (found_in (holding command_paths) target.now ≡ Some (route, no_parts))) }
 {
     if target == b"/orders".as_slice() {
         return Some(Route::Bank(BankRoute::SendOrder));

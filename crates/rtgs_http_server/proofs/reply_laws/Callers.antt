@@ -4,6 +4,7 @@ use Rattle.httparse.specs.Grammar.{RequestHead}
 use Rattle.rtgs_http_requests.specs.feeds.Region.{StartsWith}
 use Rattle.rtgs_http_requests.specs.heads.Fields.{Fields, HasKey}
 use Rattle.rtgs_http_requests.specs.heads.Heads.{IsGoodHead, fields_of}
+use Rattle.rtgs_http_requests.specs.heads.Parameters.{Parts}
 use Rattle.rtgs_http_requests.specs.heads.Targets.{is_post}
 use Rattle.rtgs_http_requests.specs.declared.heads.route.Route.{Route}
 use Rattle.rtgs_http_requests.specs.declared.heads.route.Route.TheVariants.{Bank, Operator}
@@ -49,7 +50,7 @@ caller_alike operator one other (Operator route) (Some digest) same = refl
 caller_alike operator one other (Bank route) (Some digest) same = rw (same digest refl) refl
 
 -- what is asked once the route was found
-abbrev WithRoute : List ℕ → CodeOf → List ℕ → RequestHead → Option ℕ → Route × List ℕ → Answer → Type 0
+abbrev WithRoute : List ℕ → CodeOf → List ℕ → RequestHead → Option ℕ → Route × Parts → Answer → Type 0
 WithRoute operator code_of rest head declared found =
     Then (HasCaller operator code_of found.0 head) (λ caller.
     Then (λ outcome. outcome ≡ body_length (is_post head.method) declared) (λ size.

@@ -2,6 +2,7 @@
 use Rattle.std.proofs.Common.{◌≡◌, true, ℕ, List, [], ◌∷◌, map, length, take, Option, Some, None, Ok, Err}
 use Rattle.std.proofs.Common.{refl, sym, ap, subst, ◌∙◌, inl, inr}
 use Rattle.std.specs.Prelude.{◌≢◌}
+use Rattle.rtgs_book.specs.Choice.{Choice, IsGreatest}
 use Rattle.rtgs_book.specs.declared.book.Book.{Book}
 use Rattle.rtgs_book.specs.declared.command.Command.{Command}
 use Rattle.rtgs_book.specs.declared.refusal.Refusal.{Refusal}
@@ -46,6 +47,10 @@ abbrev pub AsksOnce : Type 0
 AsksOnce = (operator : List ℕ) (code_of : CodeOf) (input : List ℕ) (one other : Answer)
     → AsksFor operator code_of input one → AsksFor operator code_of input other
     → one ≢ Err OutOfMemory → other ≢ Err OutOfMemory → AreTheSame one other
+
+-- a book has one greatest choice
+abbrev pub ChoosesOnce : Type 0
+ChoosesOnce = (book : Book) (one other : Choice) → IsGreatest book one → IsGreatest book other → one ≡ other
 
 run_once : StepsOnce → (old new last : Book) (commands : List Command) (replies others : List Reply)
     → Run old commands replies new → Run old commands others last → (replies ≡ others) × (new ≡ last)
@@ -196,11 +201,12 @@ read_of g wanted desk sent done (inr (failed, inr e)) = absurd (done (ap (λ (m 
 
 readings_alike : {K : Type 0} (g : Ghosts K) (old : Book) (reading : Reading) (one other : Seen K)
     (sent again : Message)
-    → sent.status ≢ 503 → again.status ≢ 503 → Reads g old reading one sent → Reads g old reading other again
-    → EndAlike g one other sent again
-readings_alike g old reading one other sent again done ended a b = record {
-  reply = read_of g (reading_message old reading) one sent done a.1
-      ∙ sym (read_of g (reading_message old reading) other again ended b.1);
+    → ChoosesOnce → sent.status ≢ 503 → again.status ≢ 503 → Reads g old reading one sent
+    → Reads g old reading other again → EndAlike g one other sent again
+readings_alike g old reading one other sent again once done ended a b = record {
+  reply = read_of g (reading_message old a.1 reading) one sent done a.3
+      ∙ ap (λ (choice : Choice). reading_message old choice reading) (once old a.1 b.1 a.2 b.2)
+      ∙ sym (read_of g (reading_message old b.1 reading) other again ended b.3);
   book = old;
   one_holds = a.0.kept;
   other_holds = b.0.kept;
@@ -218,32 +224,34 @@ faults_alike g old fault one other sent again done ended a b = record {
 }
 
 come_alike : {K : Type 0} (g : Ghosts K) (old : Book) (answer same : Answer) (one other : Seen K) (sent again : Message)
-    → StepsOnce → AreTheSame answer same → sent.status ≢ 503 → again.status ≢ 503 → ComesTo g old answer one sent
-    → ComesTo g old same other again → EndAlike g one other sent again
-come_alike g old (Err fault) (Err bad) one other sent again steps alike done ended a b =
+    → ChoosesOnce → StepsOnce → AreTheSame answer same → sent.status ≢ 503 → again.status ≢ 503
+    → ComesTo g old answer one sent → ComesTo g old same other again → EndAlike g one other sent again
+come_alike g old (Err fault) (Err bad) one other sent again once steps alike done ended a b =
     faults_alike g old fault one other sent again done ended a
     (subst (λ (f : HttpFault). ComesTo g old (Err f) other again) (sym alike) b)
-come_alike g old (Err fault) (Ok asked) one other sent again steps alike done ended a b = absurd alike
-come_alike g old (Ok asked) (Err fault) one other sent again steps alike done ended a b = absurd alike
-come_alike g old (Ok (Submit c)) (Ok (Submit d)) one other sent again steps alike done ended a b =
+come_alike g old (Err fault) (Ok asked) one other sent again once steps alike done ended a b = absurd alike
+come_alike g old (Ok asked) (Err fault) one other sent again once steps alike done ended a b = absurd alike
+come_alike g old (Ok (Submit c)) (Ok (Submit d)) one other sent again once steps alike done ended a b =
     submits_alike g old c one other sent again steps done ended a
     (subst (λ (x : Command). Submits g old x other again) (sym alike) b)
-come_alike g old (Ok (Submit c)) (Ok (Batch s rows)) one other sent again steps alike done ended a b = absurd alike
-come_alike g old (Ok (Submit c)) (Ok (Read r)) one other sent again steps alike done ended a b = absurd alike
-come_alike g old (Ok (Batch s rows)) (Ok (Submit c)) one other sent again steps alike done ended a b = absurd alike
-come_alike g old (Ok (Batch s rows)) (Ok (Batch t more)) one other sent again steps alike done ended (inl a) b =
+come_alike g old (Ok (Submit c)) (Ok (Batch s rows)) one other sent again once steps alike done ended a b = absurd alike
+come_alike g old (Ok (Submit c)) (Ok (Read r)) one other sent again once steps alike done ended a b = absurd alike
+come_alike g old (Ok (Batch s rows)) (Ok (Submit c)) one other sent again once steps alike done ended a b = absurd alike
+come_alike g old (Ok (Batch s rows)) (Ok (Batch t more)) one other sent again once steps alike done ended (inl a) b =
     absurd (done (ap (λ (m : Message). m.status) a.2))
-come_alike g old (Ok (Batch s rows)) (Ok (Batch t more)) one other sent again steps alike done ended (inr a) (inl b) =
+come_alike g old (Ok (Batch s rows)) (Ok (Batch t more)) one other sent again once steps alike done ended (inr a)
+    (inl b) =
     absurd (ended (ap (λ (m : Message). m.status) b.2))
-come_alike g old (Ok (Batch s rows)) (Ok (Batch t more)) one other sent again steps alike done ended (inr a) (inr b) =
+come_alike g old (Ok (Batch s rows)) (Ok (Batch t more)) one other sent again once steps alike done ended (inr a)
+    (inr b) =
     batches_alike g old s rows.items one other sent again steps done ended a
     (subst (λ (x : List ℕ). SubmitsAll g old x rows.items other again) (sym alike.0)
     (subst (λ (x : List NewOrder). SubmitsAll g old t x other again) (sym alike.1) b))
-come_alike g old (Ok (Batch s rows)) (Ok (Read r)) one other sent again steps alike done ended a b = absurd alike
-come_alike g old (Ok (Read r)) (Ok (Submit c)) one other sent again steps alike done ended a b = absurd alike
-come_alike g old (Ok (Read r)) (Ok (Batch s rows)) one other sent again steps alike done ended a b = absurd alike
-come_alike g old (Ok (Read r)) (Ok (Read q)) one other sent again steps alike done ended a b =
-    readings_alike g old r one other sent again done ended a
+come_alike g old (Ok (Batch s rows)) (Ok (Read r)) one other sent again once steps alike done ended a b = absurd alike
+come_alike g old (Ok (Read r)) (Ok (Submit c)) one other sent again once steps alike done ended a b = absurd alike
+come_alike g old (Ok (Read r)) (Ok (Batch s rows)) one other sent again once steps alike done ended a b = absurd alike
+come_alike g old (Ok (Read r)) (Ok (Read q)) one other sent again once steps alike done ended a b =
+    readings_alike g old r one other sent again once done ended a
     (subst (λ (x : Reading). Reads g old x other again) (sym alike) b)
 
 pub wanting : {K : Type 0} (g : Ghosts K) (old : Book) (answer : Answer) (desk : Seen K) (sent : Message)
@@ -253,11 +261,11 @@ wanting g old answer desk sent done comes e =
     done (ap (λ (m : Message). m.status) (said (fault_message OutOfMemory) sent done c.2))
 
 pub determined : {K : Type 0} (g : Ghosts K) (operator input : List ℕ) (old : Book) (one other : Seen K)
-    (sent again : Message) → StepsOnce → AsksOnce → Handles g operator old input one sent
+    (sent again : Message) → ChoosesOnce → StepsOnce → AsksOnce → Handles g operator old input one sent
     → Handles g operator old input other again → sent.status ≢ 503 → again.status ≢ 503
     → EndAlike g one other sent again
-determined g operator input old one other sent again steps asks a b done ended =
-    come_alike g old a.answer b.answer one other sent again steps
+determined g operator input old one other sent again once steps asks a b done ended =
+    come_alike g old a.answer b.answer one other sent again once steps
     (asks operator (code_under old) input a.answer b.answer a.asks b.asks
     (wanting g old a.answer one sent done a.comes) (wanting g old b.answer other again ended b.comes))
     done ended a.comes b.comes

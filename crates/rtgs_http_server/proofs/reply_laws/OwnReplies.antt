@@ -1,6 +1,7 @@
 -- A participant is shown its own rows.
 use Rattle.std.proofs.Common.{◌≡◌, ℕ, List, Some, Ok, Err, sym, ap, subst, ◌∙◌, inl, inr}
 use Rattle.std.specs.Prelude.{◌≢◌}
+use Rattle.rtgs_book.specs.Choice.{Choice}
 use Rattle.rtgs_book.specs.declared.book.Book.{Book}
 use Rattle.rtgs_desk.specs.Seen.{Seen}
 use Rattle.rtgs_http_bodies.specs.replies.Messages.{Message}
@@ -63,12 +64,13 @@ reads g old (Ok (Read other)) reading desk sent same comes =
 -- an input that asks for this reading is sent it
 reading_sent : {K : Type 0} (g : Ghosts K) (operator input : List ℕ) (old : Book) (reading : Reading) (desk : Seen K)
     (sent : Message) → AsksOnce → AsksFor operator (code_under old) input (Ok (Read reading))
-    → Handles g operator old input desk sent → sent.status ≢ 503 → sent ≡ reading_message old reading
+    → Handles g operator old input desk sent → sent.status ≢ 503
+    → (choice : Choice) × (sent ≡ reading_message old choice reading)
 reading_sent g operator input old reading desk sent once asks handles done =
     let same = once operator (code_under old) input handles.answer (Ok (Read reading)) handles.asks asks
     (wanting g old handles.answer desk sent done handles.comes) (λ e. let no : ⊥ = cc in no) in
     let read = reads g old handles.answer reading desk sent same handles.comes in
-    read_of g (reading_message old reading) desk sent done read.1
+    (read.1, read_of g (reading_message old read.1 reading) desk sent done read.3)
 
 pub own_replies : {K : Type 0} (g : Ghosts K) → KeysOnce → AsksOnce → AskOwn → (operator input code : List ℕ)
     (one other : Book) (first second : Seen K) (sent again : Message) (reading : Reading) → AgreeFor code one other
@@ -80,6 +82,6 @@ own_replies g laws once own operator input code one other first second sent agai
     let alike = same_bearer laws operator input code one other by_one by_other in
     let asks_again = asked_alike operator input (code_under one) (code_under other) (Ok (Read reading)) alike asks in
     let is = own_asked laws own operator input code one (Read reading) by_one asks in
-    reading_sent g operator input other reading second again once asks_again handled ended
-    ∙ sym (own_rows one other code reading is agree)
-    ∙ sym (reading_sent g operator input one reading first sent once asks handles done)
+    let before = reading_sent g operator input one reading first sent once asks handles done in
+    let after = reading_sent g operator input other reading second again once asks_again handled ended in
+    after.1 ∙ sym (own_rows one other before.0 after.0 code reading is agree) ∙ sym before.1

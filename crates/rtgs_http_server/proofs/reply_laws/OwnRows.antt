@@ -4,14 +4,16 @@ use Rattle.std.proofs.Common.{Some, refl, sym, ap, ◌∙◌}
 use Rattle.std.proofs.Math.IntN.{+ℤ_idl}
 use Rattle.std.specs.List.{find}
 use Rattle.std.specs.Str.{bytes_eq}
-use Rattle.rtgs_book.specs.Balance.{balance, gain}
-use Rattle.rtgs_book.specs.Books.{is_queued, is_settled}
+use Rattle.rtgs_book.specs.Balance.{balance, floor, gain}
+use Rattle.rtgs_book.specs.Books.{is_held, is_queued, is_settled}
+use Rattle.rtgs_book.specs.Choice.{Choice}
 use Rattle.rtgs_book.specs.IntSum.{int_sum_by}
-use Rattle.rtgs_book.specs.Lookup.{order_named, participant_of, is_order_named}
+use Rattle.rtgs_book.specs.Lookup.{credit_of, order_named, participant_of, is_order_named}
 use Rattle.rtgs_book.specs.Queue.{queue}
 use Rattle.rtgs_book.specs.declared.book.Book.{Book}
 use Rattle.rtgs_book.specs.declared.order.Order.{Order}
-use Rattle.rtgs_desk.specs.Readings.{account_answer, queue_answer, order_answer}
+use Rattle.rtgs_desk.specs.Readings.{account_answer, by_date, held, held_answer, queue_answer, order_answer}
+use Rattle.rtgs_desk.specs.Readings.{waiting_answer}
 use Rattle.rtgs_http_bodies.specs.desks.Written.{statement_wanted}
 use Rattle.rtgs_http_requests.specs.Access.{IsReadingOf}
 use Rattle.rtgs_book.specs.declared.reading.Reading.{Reading}
@@ -129,9 +131,34 @@ unfolding participant_of balance queue
 account_alike one other code agree =
     rw (agree.participant, balance_alike one other code agree, agree.day, queue_alike one other code agree) refl
 
-waiting_alike : (one other : Book) (code : List ℕ) → AgreeFor code one other
+queue_read_alike : (one other : Book) (code : List ℕ) → AgreeFor code one other
     → queue_answer one code ≡ queue_answer other code
-waiting_alike one other code agree = rw (agree.participant, queue_alike one other code agree) refl
+queue_read_alike one other code agree = rw (agree.participant, queue_alike one other code agree) refl
+
+held_alike : (one other : Book) (code : List ℕ) → AgreeFor code one other → held one code ≡ held other code
+unfolding held
+held_alike one other code agree =
+    ap by_date (taken_alike (λ order. is_held order && bytes_eq order.sender code) (concerns code)
+    (λ order e. own_order code order (and_right (is_held order) (bytes_eq order.sender code) e)) one.orders
+    other.orders agree.orders)
+
+held_read_alike : (one other : Book) (code : List ℕ) → AgreeFor code one other
+    → held_answer one code ≡ held_answer other code
+held_read_alike one other code agree = rw (agree.participant, held_alike one other code agree) refl
+
+floor_alike : (one other : Book) (code : List ℕ) → AgreeFor code one other → floor one code ≡ floor other code
+unfolding floor credit_of participant_of
+floor_alike one other code agree = rw (agree.day, agree.participant) refl
+
+waiting_alike : (one other : Book) (code : List ℕ) → AgreeFor code one other
+    → waiting_answer one code ≡ waiting_answer other code
+waiting_alike one other code agree = rw (
+  agree.participant,
+  balance_alike one other code agree,
+  floor_alike one other code agree,
+  queue_alike one other code agree,
+  held_alike one other code agree,
+) refl
 
 statement_alike : (one other : Book) (code : List ℕ) (date : ℕ) → AgreeFor code one other
     → statement_wanted one code date ≡ statement_wanted other code date
@@ -143,13 +170,20 @@ statement_alike one other code date agree =
     (λ order e. and_right (is_ordered_on date order) (concerns code order) e) one.orders other.orders agree.orders in
     rw (agree.participant, postings, orders) refl
 
-pub own_rows : (one other : Book) (code : List ℕ) (read : Reading) → IsReadingOf code read → AgreeFor code one other
-    → reading_message one read ≡ reading_message other read
-own_rows one other code (reading.Order sender reference) is agree =
+pub own_rows : (one other : Book) (first second : Choice) (code : List ℕ) (read : Reading) → IsReadingOf code read
+    → AgreeFor code one other → reading_message one first read ≡ reading_message other second read
+own_rows one other first second code (reading.Order sender reference) is agree =
     rw (is, order_alike one other code reference agree) refl
-own_rows one other code (reading.Account owner) is agree = rw (is, account_alike one other code agree) refl
-own_rows one other code reading.Accounts is agree = absurd is
-own_rows one other code (reading.Queue owner) is agree = rw (is, waiting_alike one other code agree) refl
-own_rows one other code (reading.Statement owner date) is agree =
+own_rows one other first second code (reading.Account owner) is agree = rw (is, account_alike one other code agree) refl
+own_rows one other first second code reading.Accounts is agree = absurd is
+own_rows one other first second code (reading.Queue owner) is agree =
+    rw (is, queue_read_alike one other code agree) refl
+own_rows one other first second code (reading.Held owner) is agree = rw (is, held_read_alike one other code agree) refl
+own_rows one other first second code (reading.Waiting owner) is agree = rw (is, waiting_alike one other code agree) refl
+own_rows one other first second code reading.Queues is agree = absurd is
+own_rows one other first second code reading.Status is agree = absurd is
+own_rows one other first second code (reading.Statement owner date) is agree =
     rw (is, statement_alike one other code date agree) refl
-own_rows one other code (reading.Report date) is agree = absurd is
+own_rows one other first second code (reading.Report date) is agree = absurd is
+own_rows one other first second code (reading.Orders date) is agree = absurd is
+own_rows one other first second code (reading.Marks date) is agree = absurd is

@@ -7,6 +7,7 @@ use Rattle.rtgs_book.specs.declared.command.Command.{Command}
 use Rattle.rtgs_book.specs.declared.refusal.Refusal.{Refusal}
 use Rattle.rtgs_book.specs.declared.refusal.Refusal.TheVariants.{OutOfMemory, StoreFault, Failed}
 use Rattle.rtgs_book.specs.Calm.{IsCalm}
+use Rattle.rtgs_book.specs.Choice.{Choice, IsGreatest}
 use Rattle.rtgs_book.specs.Outcome.{Reply}
 use Rattle.rtgs_book.specs.Session.{IsSession, open_command}
 use Rattle.rtgs_keeper.specs.declared.keeper.Keeper.{Ghosts}
@@ -63,9 +64,10 @@ IsReadOf g wanted desk sent =
     ((g.has_failed desk.keeper ≡ false) × IsSaid wanted sent)
     ⊎ ((g.has_failed desk.keeper ≡ true) × IsSaid (refused_message StoreFault) sent)
 
--- the book was read, and nothing done to it
+-- the book was read, and nothing done to it; a book has one greatest choice
 abbrev pub Reads : {K : Type 0} → Ghosts K → Book → Reading → Seen K → Message → Type 0
-Reads g old reading desk sent = StillHolds g old desk × IsReadOf g (reading_message old reading) desk sent
+Reads g old reading desk sent = StillHolds g old desk × (choice : Choice) × IsGreatest old choice
+    × IsReadOf g (reading_message old choice reading) desk sent
 
 -- what is done and sent for what a request asks, or for the fault of the first step that fails
 abbrev pub ComesTo : {K : Type 0} → Ghosts K → Book → Result Asked HttpFault → Seen K → Message → Type 0

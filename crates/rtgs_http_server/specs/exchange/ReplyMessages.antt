@@ -4,22 +4,31 @@ use Rattle.rtgs_book.specs.declared.book.Book.{Book}
 use Rattle.rtgs_book.specs.declared.day.Day.{Day}
 use Rattle.rtgs_book.specs.declared.order.Order.{Order}
 use Rattle.rtgs_book.specs.declared.refusal.Refusal.{Refusal}
+use Rattle.rtgs_book.specs.Choice.{Choice}
 use Rattle.rtgs_book.specs.Outcome.{Reply}
-use Rattle.rtgs_desk.specs.Readings.{account_answer, accounts_answer, queue_answer, order_answer}
+use Rattle.rtgs_desk.specs.Queues.{queues_answer}
+use Rattle.rtgs_desk.specs.Readings.{account_answer, accounts_answer, held_answer, queue_answer, order_answer}
+use Rattle.rtgs_desk.specs.Readings.{status_answer, waiting_answer}
 use Rattle.rtgs_book.specs.declared.account_reading.AccountReading.{AccountReading}
+use Rattle.rtgs_book.specs.declared.queue_reading.QueueReading.{QueueReading}
+use Rattle.rtgs_book.specs.declared.status.Status.{Status}
+use Rattle.rtgs_book.specs.declared.waiting_reading.WaitingReading.{WaitingReading}
 use Rattle.rtgs_http_bodies.specs.Answers.{answer_data}
 use Rattle.rtgs_http_bodies.specs.Readings.{order_data, queue_data}
 use Rattle.rtgs_http_bodies.specs.Refusals.{refused_message, batch_refused_message}
 use Rattle.rtgs_http_bodies.specs.replies.Kinds.{kind_message, no_memory, answer_lost}
 use Rattle.rtgs_http_bodies.specs.replies.Messages.{Message, message, json_message}
-use Rattle.rtgs_http_bodies.specs.declared.replies.content_type.ContentType.TheVariants.{Plain}
+use Rattle.rtgs_http_bodies.specs.declared.replies.content_type.ContentType.TheVariants.{Csv, Plain}
 use Rattle.rtgs_http_requests.specs.Faults.{http_kind_of}
 use Rattle.rtgs_http_requests.specs.declared.http_fault.HttpFault.{HttpFault}
 use Rattle.rtgs_http_requests.specs.declared.http_fault.HttpFault.TheVariants.{Batch}
 use Rattle.rtgs_book.specs.declared.reading.Reading.{Reading}
 use Rattle.rtgs_book.specs.declared.reading.Reading.TheVariants as reading
 use Rattle.rtgs_http_bodies.specs.desks.Accounts.{account_data, accounts_data}
-use Rattle.rtgs_http_bodies.specs.desks.Written.{statement_wanted, report_wanted}
+use Rattle.rtgs_http_bodies.specs.desks.Queues.{queues_data}
+use Rattle.rtgs_http_bodies.specs.desks.Status.{status_data}
+use Rattle.rtgs_http_bodies.specs.desks.Waiting.{held_list_data, waiting_data}
+use Rattle.rtgs_http_bodies.specs.desks.Written.{statement_wanted, report_wanted, orders_wanted, marks_wanted}
 
 -- What is sent is this, or that there was no memory for it. No command was given.
 abbrev pub IsSaid : Message → Message → Type 0
@@ -56,15 +65,37 @@ accounts_message day accounts = json_message 200 (accounts_data day accounts)
 abbrev pub queue_message : List Order → Message
 queue_message orders = json_message 200 (queue_data orders)
 
+abbrev pub held_message : List Order → Message
+held_message orders = json_message 200 (held_list_data orders)
+
+abbrev pub waiting_message : WaitingReading → Message
+waiting_message reading = json_message 200 (waiting_data reading)
+
+abbrev pub queues_message : Day → List QueueReading → Message
+queues_message day queues = json_message 200 (queues_data day queues)
+
+abbrev pub status_message : Status → Message
+status_message status = json_message 200 (status_data status)
+
 abbrev pub text_message : List ℕ → Message
 text_message text = message 200 Plain text
 
--- what is read in a book
-abbrev pub reading_message : Book → Reading → Message
-reading_message book (reading.Order sender reference) =
+abbrev pub csv_message : List ℕ → Message
+csv_message text = message 200 Csv text
+
+-- what is read in a book of which this is the greatest choice
+abbrev pub reading_message : Book → Choice → Reading → Message
+reading_message book choice (reading.Order sender reference) =
     result_message order_message (order_answer book sender reference)
-reading_message book (reading.Account code) = result_message account_message (account_answer book code)
-reading_message book reading.Accounts = result_message (accounts_message book.day) (accounts_answer book)
-reading_message book (reading.Queue code) = result_message queue_message (queue_answer book code)
-reading_message book (reading.Statement code date) = result_message text_message (statement_wanted book code date)
-reading_message book (reading.Report date) = result_message text_message (report_wanted book date)
+reading_message book choice (reading.Account code) = result_message account_message (account_answer book code)
+reading_message book choice reading.Accounts = result_message (accounts_message book.day) (accounts_answer book)
+reading_message book choice (reading.Queue code) = result_message queue_message (queue_answer book code)
+reading_message book choice (reading.Held code) = result_message held_message (held_answer book code)
+reading_message book choice (reading.Waiting code) = result_message waiting_message (waiting_answer book code)
+reading_message book choice reading.Queues = result_message (queues_message book.day) (queues_answer book choice)
+reading_message book choice reading.Status = result_message status_message (status_answer book)
+reading_message book choice (reading.Statement code date) =
+    result_message text_message (statement_wanted book code date)
+reading_message book choice (reading.Report date) = result_message text_message (report_wanted book date)
+reading_message book choice (reading.Orders date) = result_message csv_message (orders_wanted book date)
+reading_message book choice (reading.Marks date) = result_message csv_message (marks_wanted book date)

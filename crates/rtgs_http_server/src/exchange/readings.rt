@@ -1,21 +1,32 @@
 //! Readings, and what is replied to them.
 ghost use Rattle.rtgs_book.specs.declared.book.Book.{Book};
+ghost use Rattle.rtgs_book.specs.Choice.{Choice, IsGreatest};
 ghost use Rattle.rtgs_desk.specs.Holding.{Holds};
-ghost use Rattle.rtgs_desk.specs.Readings.{account_answer, accounts_answer, queue_answer, order_answer};
-ghost use Rattle.rtgs_http_bodies.specs.desks.Written.{statement_wanted, report_wanted};
+ghost use Rattle.rtgs_desk.specs.Queues.{queues_answer};
+ghost use Rattle.rtgs_desk.specs.Readings.{account_answer, accounts_answer, held_answer, queue_answer, order_answer};
+ghost use Rattle.rtgs_desk.specs.Readings.{status_answer, waiting_answer};
+ghost use Rattle.rtgs_http_bodies.specs.desks.Written.{marks_wanted, orders_wanted, report_wanted};
+ghost use Rattle.rtgs_http_bodies.specs.desks.Written.{statement_wanted};
 ghost use Rattle.rtgs_http_bodies.specs.desks.Written.{StillHolds};
 ghost use Rattle.rtgs_http_server.specs.exchange.Handling.{Reads, IsReadOf};
-ghost use Rattle.rtgs_http_server.specs.exchange.ReplyMessages.{IsSaid, result_message, order_message, account_message};
-ghost use Rattle.rtgs_http_server.specs.exchange.ReplyMessages.{queue_message};
-ghost use Rattle.rtgs_http_server.specs.exchange.ReplyMessages.{accounts_message, text_message};
+ghost use Rattle.rtgs_http_server.specs.exchange.ReplyMessages.{IsSaid, account_message, accounts_message};
+ghost use Rattle.rtgs_http_server.specs.exchange.ReplyMessages.{csv_message, held_message, order_message};
+ghost use Rattle.rtgs_http_server.specs.exchange.ReplyMessages.{queue_message, queues_message, reading_message};
+ghost use Rattle.rtgs_http_server.specs.exchange.ReplyMessages.{result_message, status_message, text_message};
+ghost use Rattle.rtgs_http_server.specs.exchange.ReplyMessages.{waiting_message};
 
 use crate::exchange::faults::refused;
 use rtgs_book::Reading;
+use rtgs_book::laws::greatest_exists;
 use rtgs_desk::Desk;
-use rtgs_http_bodies::desks::laws::{all_queued_values_fit, queued_values_fit};
+use rtgs_http_bodies::desks::laws::{
+    all_queue_sums_fit, all_queued_values_fit, queued_values_fit, status_values_fit,
+    waiting_values_fit,
+};
 use rtgs_http_bodies::{
-    Reply, account_reply, accounts_reply, order_reply, queue_reply, report_text, statement_text,
-    text_reply,
+    Reply, account_reply, accounts_reply, csv_reply, held_reply, marks_text, order_reply,
+    orders_text, queue_reply, queues_reply, report_text, statement_text, status_reply, text_reply,
+    waiting_reply,
 };
 use rtgs_keeper::Keeper;
 use rtgs_money::{BusinessDate, Code, Reference};
@@ -31,6 +42,18 @@ pub(in crate::exchange) fn read<K: Keeper>(
         → Reads K.Keeper book reading desk.new result }
     ensures honest { K.is_honest desk.new.keeper → K.is_honest desk.old.keeper }
 {
+    greatest_exists();
+    desk.holds_a_sound_book();
+    read_by_choice(alloc, desk, reading)
+}
+
+// The same, whatever the greatest choice is.
+fn read_by_choice<K: Keeper>(alloc: Global, desk: &mut Desk<K>, reading: Reading) -> Reply
+    ensures reads { K.is_honest desk.new.keeper → (book : Book) (choice : Choice) → Holds K.Keeper desk.old book
+        → IsGreatest book choice → StillHolds K.Keeper book desk.new
+        × IsReadOf K.Keeper (reading_message book choice reading) desk.new result }
+    ensures honest { K.is_honest desk.new.keeper → K.is_honest desk.old.keeper }
+{
     stands(desk);
     desk.holds_a_sound_book();
     match reading {
@@ -38,8 +61,14 @@ pub(in crate::exchange) fn read<K: Keeper>(
         Reading::Account { code } => read_account(alloc, desk, &code),
         Reading::Accounts => read_accounts(alloc, desk),
         Reading::Queue { code } => read_queue(alloc, desk, &code),
+        Reading::Held { code } => read_held(alloc, desk, &code),
+        Reading::Waiting { code } => read_waiting(alloc, desk, &code),
+        Reading::Queues => read_queues(alloc, desk),
+        Reading::Status => read_status(alloc, desk),
         Reading::Statement { code, date } => read_statement(alloc, desk, &code, date),
         Reading::Report { date } => read_report(alloc, desk, date),
+        Reading::Orders { date } => read_orders(alloc, desk, date),
+        Reading::Marks { date } => read_marks(alloc, desk, date),
     }
 }
 
@@ -124,6 +153,76 @@ fn read_queue<K: Keeper>(alloc: Global, desk: &Desk<K>, code: &Code) -> Reply
     }
 }
 
+// The held orders.
+fn read_held<K: Keeper>(alloc: Global, desk: &Desk<K>, code: &Code) -> Reply
+    ensures { (book : Book) → Holds K.Keeper desk.now book
+        → IsSaid (result_message held_message (held_answer book code.now)) result }
+{
+    let orders = match desk.held_of(code) {
+        Ok(orders) => orders,
+        Err(refusal) => return refused(alloc, refusal),
+    };
+    match held_reply(alloc, &orders) {
+        Ok(reply) => reply,
+        Err(_) => Reply::out_of_memory(),
+    }
+}
+
+// Why the orders wait.
+fn read_waiting<K: Keeper>(alloc: Global, desk: &Desk<K>, code: &Code) -> Reply
+    ensures { (book : Book) → Holds K.Keeper desk.now book
+        → IsSaid (result_message waiting_message (waiting_answer book code.now)) result }
+{
+    desk.holds_a_sound_book();
+    waiting_values_fit();
+    let reading = match desk.waiting_of(code) {
+        Ok(reading) => reading,
+        Err(refusal) => return refused(alloc, refusal),
+    };
+    match waiting_reply(alloc, &reading) {
+        Ok(reply) => reply,
+        Err(_) => Reply::out_of_memory(),
+    }
+}
+
+// The queues of all participants.
+fn read_queues<K: Keeper>(alloc: Global, desk: &Desk<K>) -> Reply
+    ensures { (book : Book) (choice : Choice) → Holds K.Keeper desk.now book → IsGreatest book choice
+        → IsSaid (result_message (queues_message book.day) (queues_answer book choice)) result }
+{
+    desk.holds_a_sound_book();
+    all_queue_sums_fit();
+    let day = match desk.day() {
+        Ok(day) => day,
+        Err(refusal) => return refused(alloc, refusal),
+    };
+    let queues = match desk.queues() {
+        Ok(queues) => queues,
+        Err(refusal) => return refused(alloc, refusal),
+    };
+    match queues_reply(alloc, day, &queues) {
+        Ok(reply) => reply,
+        Err(_) => Reply::out_of_memory(),
+    }
+}
+
+// How the desk stands.
+fn read_status<K: Keeper>(alloc: Global, desk: &Desk<K>) -> Reply
+    ensures { (book : Book) → Holds K.Keeper desk.now book
+        → IsSaid (result_message status_message (status_answer book)) result }
+{
+    desk.holds_a_sound_book();
+    status_values_fit();
+    let status = match desk.status() {
+        Ok(status) => status,
+        Err(refusal) => return refused(alloc, refusal),
+    };
+    match status_reply(alloc, &status) {
+        Ok(reply) => reply,
+        Err(_) => Reply::out_of_memory(),
+    }
+}
+
 // The statement of a date.
 fn read_statement<K: Keeper>(
     alloc: Global,
@@ -159,6 +258,42 @@ fn read_report<K: Keeper>(alloc: Global, desk: &mut Desk<K>, date: BusinessDate)
         Err(refusal) => return refused(alloc, refusal),
     };
     match text_reply(alloc, &text) {
+        Ok(reply) => reply,
+        Err(_) => Reply::out_of_memory(),
+    }
+}
+
+// The orders of a date, as CSV.
+fn read_orders<K: Keeper>(alloc: Global, desk: &mut Desk<K>, date: BusinessDate) -> Reply
+    ensures reads { K.is_honest desk.new.keeper → (book : Book) → Holds K.Keeper desk.old book
+        → StillHolds K.Keeper book desk.new × IsReadOf K.Keeper
+        (result_message csv_message (orders_wanted book date)) desk.new result }
+    ensures honest { K.is_honest desk.new.keeper → K.is_honest desk.old.keeper }
+{
+    desk.holds_a_sound_book();
+    let text = match orders_text(alloc, desk, date) {
+        Ok(text) => text,
+        Err(refusal) => return refused(alloc, refusal),
+    };
+    match csv_reply(alloc, &text) {
+        Ok(reply) => reply,
+        Err(_) => Reply::out_of_memory(),
+    }
+}
+
+// The marks of a date, as CSV.
+fn read_marks<K: Keeper>(alloc: Global, desk: &mut Desk<K>, date: BusinessDate) -> Reply
+    ensures reads { K.is_honest desk.new.keeper → (book : Book) → Holds K.Keeper desk.old book
+        → StillHolds K.Keeper book desk.new × IsReadOf K.Keeper
+        (result_message csv_message (marks_wanted book date)) desk.new result }
+    ensures honest { K.is_honest desk.new.keeper → K.is_honest desk.old.keeper }
+{
+    desk.holds_a_sound_book();
+    let text = match marks_text(alloc, desk, date) {
+        Ok(text) => text,
+        Err(refusal) => return refused(alloc, refusal),
+    };
+    match csv_reply(alloc, &text) {
         Ok(reply) => reply,
         Err(_) => Reply::out_of_memory(),
     }

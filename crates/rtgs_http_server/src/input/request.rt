@@ -100,7 +100,7 @@ fn read_content<R: Read>(
         Ok(body) => body,
         Err(unread) => return Err(unread),
     };
-    match read_asked(alloc, caller, plan.parameter, body.bytes()) {
+    match read_asked(alloc, caller, plan.parameters, body.bytes()) {
         Ok(asked) => Ok(asked),
         Err(fault) => Err(Unread::Faulty(fault)),
     }

@@ -2,6 +2,7 @@
 ghost use Rattle.std.specs.Prelude.{◌≡◌, ◌≢◌, true, ℕ, List, Ok};
 ghost use Rattle.rtgs_book.specs.declared.book.Book.{Book};
 ghost use Rattle.rtgs_book.specs.declared.command.Command.{Command};
+ghost use Rattle.rtgs_book.specs.Choice.{Choice};
 ghost use Rattle.rtgs_book.specs.Outcome.{Reply};
 ghost use Rattle.rtgs_book.specs.Run.{Run, is_accepted};
 ghost use Rattle.rtgs_book.specs.Soundness.{IsSound};
@@ -20,6 +21,7 @@ ghost use Rattle.rtgs_book.specs.declared.reading.Reading.{Reading};
 ghost use Rattle.rtgs_ledger.specs.Keys.{code_under};
 ghost use Rattle.rtgs_laws.specs.repeats.Repeats.{answered_number};
 
+use rtgs_book::laws::greatest_is_unique;
 use rtgs_http_requests::feeds::laws::regions_are_determined;
 use rtgs_http_requests::heads::laws::{heads_are_determined, keys_are_determined};
 use rtgs_http_requests::laws::{answers_are_determined, participants_ask_for_their_own};
@@ -30,8 +32,9 @@ use rtgs_laws::repeats::laws::acted_is_repeated;
 /// A participant reads its own rows alone: two books that agree in the day and in its record, its postings, the orders
 /// that it sent and the settled orders to it have the same reply to each of its readings.
 pub fn participants_read_their_own_rows()
-    ensures { (one other : Book) (code : List ℕ) (reading : Reading) → IsReadingOf code reading
-        → AgreeFor code one other → reading_message one reading ≡ reading_message other reading }
+    ensures { (one other : Book) (first second : Choice) (code : List ℕ) (reading : Reading)
+        → IsReadingOf code reading → AgreeFor code one other
+        → reading_message one first reading ≡ reading_message other second reading }
 {}
 
 /// So it is with a whole request: an input that carries a participant's key, and asks for a reading, has the same reply
@@ -58,6 +61,7 @@ pub fn replies_are_determined<K: Keeper>()
         → Handles K.Keeper operator old input one sent → Handles K.Keeper operator old input other again
         → sent.status ≢ 503 → again.status ≢ 503 → EndAlike K.Keeper one other sent again }
 {
+    greatest_is_unique();
     step_is_determined();
     answers_are_determined();
 }

@@ -52,7 +52,8 @@ fn a_missing_key_is_nobodys(rt: HostRuntime) -> Result<(), Fail> {
     tells_faults(rt.alloc(), MISSING)
 }
 
-// No route; a bad head and no route; no key and no length; a bad parameter and a bad body; a bad route for the key.
+// No route; a bad head and no route; no key and no length; a bad parameter and a bad body; and the route of another
+// caller with bad parameters, or with a bad body.
 const FIRST_FAULTS: &str = r#"
 RAW GET /account?x=1 HTTP/1.1\r\n
 \r\n
@@ -70,6 +71,12 @@ ALFA POST /orders/a-1/withdraw [
 -> 400 31 BadReference
 
 OPERATOR GET /orders/a-1
+-> 403 68 NoKey
+
+ALFA GET /desk/orders/alfa/a-1
+-> 403 68 NoKey
+
+ALFA POST /desk/batches/ALFA [
 -> 403 68 NoKey
 "#;
 

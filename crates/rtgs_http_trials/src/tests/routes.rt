@@ -55,6 +55,12 @@ ALFA GET /account
 ALFA GET /queue
 -> read queue ALFA
 
+ALFA GET /held
+-> read held ALFA
+
+ALFA GET /waiting
+-> read waiting ALFA
+
 ALFA GET /orders/A-1
 -> read order ALFA A-1
 
@@ -103,4 +109,61 @@ OPERATOR GET /desk/accounts
 #[test]
 fn the_operators_day(rt: HostRuntime) -> Result<(), Fail> {
     tells_faults(rt.alloc(), THE_DAY)
+}
+
+const THE_DESK: &str = r#"
+OPERATOR GET /desk/status
+-> read status
+
+OPERATOR GET /desk/queues
+-> read queues
+
+OPERATOR GET /desk/orders/2024-03-04
+-> read orders 2024-03-04
+
+OPERATOR GET /desk/marks/2024-03-05
+-> read marks 2024-03-05
+"#;
+
+#[test]
+fn what_the_operator_reads_of_the_desk(rt: HostRuntime) -> Result<(), Fail> {
+    tells_faults(rt.alloc(), THE_DESK)
+}
+
+// No bank has the code ZETA: whether there is one, the book tells.
+const OF_A_BANK: &str = r#"
+OPERATOR GET /desk/queue/ALFA
+-> read queue ALFA
+
+OPERATOR GET /desk/held/ZETA
+-> read held ZETA
+
+OPERATOR GET /desk/orders/BETA/A-1
+-> read order BETA A-1
+
+OPERATOR GET /desk/orders/BETA/2024-03-04
+-> read order BETA 2024-03-04
+
+OPERATOR GET /desk/statements/GAMA/2024-03-09
+-> read statement GAMA 2024-03-09
+"#;
+
+#[test]
+fn what_the_operator_reads_of_a_bank(rt: HostRuntime) -> Result<(), Fail> {
+    tells_faults(rt.alloc(), OF_A_BANK)
+}
+
+const FOR_A_BANK: &str = r#"
+OPERATOR POST /desk/orders/BETA/A-1/withdraw {}
+-> withdraw BETA A-1
+
+OPERATOR POST /desk/batches/BETA
+reference,to,amount
+A-1,ALFA,100
+-> batch BETA, A-1 ALFA 100
+"#;
+
+#[test]
+fn what_the_operator_does_for_a_bank(rt: HostRuntime) -> Result<(), Fail> {
+    tells_faults(rt.alloc(), FOR_A_BANK)
 }

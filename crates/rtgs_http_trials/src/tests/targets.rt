@@ -53,7 +53,71 @@ OPERATOR GET /desk/accounts/ALFA
 
 ALFA GET /statements/
 -> 404 67 NoSuchRoute
+
+ALFA GET /held/
+-> 404 67 NoSuchRoute
+
+ALFA GET /held/ALFA
+-> 404 67 NoSuchRoute
+
+ALFA GET /waiting/ALFA
+-> 404 67 NoSuchRoute
 "#;
+
+const NONE_OF_THE_DESK: &str = r#"
+OPERATOR GET /desk/queues/
+-> 404 67 NoSuchRoute
+
+OPERATOR GET /desk/queues/ALFA
+-> 404 67 NoSuchRoute
+
+OPERATOR GET /desk/status/ALFA
+-> 404 67 NoSuchRoute
+
+OPERATOR GET /desk/queue
+-> 404 67 NoSuchRoute
+
+OPERATOR GET /desk/queue/
+-> 404 67 NoSuchRoute
+
+OPERATOR GET /desk/held
+-> 404 67 NoSuchRoute
+
+OPERATOR GET /desk/waiting/ALFA
+-> 404 67 NoSuchRoute
+
+OPERATOR GET /desk/orders
+-> 404 67 NoSuchRoute
+
+OPERATOR GET /desk/orders/
+-> 404 67 NoSuchRoute
+
+OPERATOR GET /desk/orders/2024-03-04/
+-> 404 67 NoSuchRoute
+
+OPERATOR GET /desk/orders//A-1
+-> 404 67 NoSuchRoute
+
+OPERATOR GET /desk/orders/ALFA/A-1/
+-> 404 67 NoSuchRoute
+
+OPERATOR GET /desk/orders/ALFA/A-1/withdraw
+-> 404 67 NoSuchRoute
+
+OPERATOR GET /desk/marks
+-> 404 67 NoSuchRoute
+
+OPERATOR GET /desk/statements/ALFA
+-> 404 67 NoSuchRoute
+
+OPERATOR GET /desk/statements/ALFA/2024-03-04/2024-03-05
+-> 404 67 NoSuchRoute
+"#;
+
+#[test]
+fn targets_of_the_desk_without_a_route(rt: HostRuntime) -> Result<(), Fail> {
+    tells_faults(rt.alloc(), NONE_OF_THE_DESK)
+}
 
 #[test]
 fn targets_without_a_route(rt: HostRuntime) -> Result<(), Fail> {
@@ -77,6 +141,27 @@ ALFA POST /batches/ {}
 -> 404 67 NoSuchRoute
 
 OPERATOR POST /desk/accounts {}
+-> 404 67 NoSuchRoute
+
+OPERATOR POST /desk/orders/ALFA {}
+-> 404 67 NoSuchRoute
+
+OPERATOR POST /desk/orders/ALFA/A-1 {}
+-> 404 67 NoSuchRoute
+
+OPERATOR POST /desk/orders/ALFA/withdraw {}
+-> 404 67 NoSuchRoute
+
+OPERATOR POST /desk/orders//A-1/withdraw {}
+-> 404 67 NoSuchRoute
+
+OPERATOR POST /desk/batches {}
+-> 404 67 NoSuchRoute
+
+OPERATOR POST /desk/batches/ {}
+-> 404 67 NoSuchRoute
+
+OPERATOR POST /desk/queue/ALFA {}
 -> 404 67 NoSuchRoute
 "#;
 
@@ -132,4 +217,66 @@ ALFA GET /statements/20240304
 #[test]
 fn parameters_of_no_form(rt: HostRuntime) -> Result<(), Fail> {
     tells_faults(rt.alloc(), NO_FORM)
+}
+
+const NO_FORM_AT_THE_DESK: &str = r#"
+OPERATOR GET /desk/queue/alfa
+-> 400 30 BadCode
+
+OPERATOR GET /desk/held/ALF%41
+-> 400 30 BadCode
+
+OPERATOR GET /desk/orders/2024-03-32
+-> 400 35 BadDate
+
+OPERATOR GET /desk/orders/ALFA
+-> 400 35 BadDate
+
+OPERATOR GET /desk/marks/20240304
+-> 400 35 BadDate
+
+OPERATOR GET /desk/orders/ALFA/a-1
+-> 400 31 BadReference
+
+OPERATOR GET /desk/orders/A-1/ALFA
+-> 400 30 BadCode
+
+OPERATOR GET /desk/statements/ALFA/2024-02-30
+-> 400 35 BadDate
+
+OPERATOR POST /desk/orders/ALFA/a-1/withdraw {}
+-> 400 31 BadReference
+
+OPERATOR POST /desk/batches/alfa
+reference,to,amount
+A-1,BETA,100
+-> 400 30 BadCode
+"#;
+
+#[test]
+fn parameters_of_no_form_at_the_desk(rt: HostRuntime) -> Result<(), Fail> {
+    tells_faults(rt.alloc(), NO_FORM_AT_THE_DESK)
+}
+
+// The left parameter is judged before the right one, and both before the body.
+const LEFT_FIRST: &str = r#"
+OPERATOR GET /desk/orders/alfa/a-1
+-> 400 30 BadCode
+
+OPERATOR GET /desk/statements/alfa/2024-02-30
+-> 400 30 BadCode
+
+OPERATOR POST /desk/orders/alfa/a-1/withdraw [
+-> 400 30 BadCode
+
+OPERATOR POST /desk/orders/ALFA/a-1/withdraw [
+-> 400 31 BadReference
+
+OPERATOR POST /desk/batches/alfa [
+-> 400 30 BadCode
+"#;
+
+#[test]
+fn the_left_parameter_is_judged_first(rt: HostRuntime) -> Result<(), Fail> {
+    tells_faults(rt.alloc(), LEFT_FIRST)
 }

@@ -47,8 +47,14 @@ fn reading_words(alloc: Global, reading: &Reading) -> Result<String, AllocError>
         Reading::Account { code } => format!(in alloc; "read account {code}"),
         Reading::Accounts => String::from_str(alloc, "read accounts"),
         Reading::Queue { code } => format!(in alloc; "read queue {code}"),
+        Reading::Held { code } => format!(in alloc; "read held {code}"),
+        Reading::Waiting { code } => format!(in alloc; "read waiting {code}"),
+        Reading::Queues => String::from_str(alloc, "read queues"),
+        Reading::Status => String::from_str(alloc, "read status"),
         Reading::Statement { code, date } => format!(in alloc; "read statement {code} {date}"),
         Reading::Report { date } => format!(in alloc; "read report {date}"),
+        Reading::Orders { date } => format!(in alloc; "read orders {date}"),
+        Reading::Marks { date } => format!(in alloc; "read marks {date}"),
     }
 }
 

@@ -1,8 +1,8 @@
 //! What the desk reads.
-ghost use Rattle.std.specs.Prelude.{◌≡◌, map, take, IfOk, IfSome, slice_get};
+ghost use Rattle.std.specs.Prelude.{◌≡◌, length, map, take, IfOk, IfSome, slice_get};
 ghost use Rattle.std.specs.Option.{option_map};
 ghost use Rattle.rtgs_book.specs.declared.book.Book.{Book};
-ghost use Rattle.rtgs_book.specs.Balance.{balance};
+ghost use Rattle.rtgs_book.specs.Balance.{balance, floor_at, total};
 ghost use Rattle.rtgs_book.specs.Lookup.{codes_of};
 ghost use Rattle.rtgs_book.specs.Lookup as lookup;
 ghost use Rattle.rtgs_book.specs.Queue.{queue, queued_among};
@@ -14,7 +14,7 @@ ghost use Rattle.rtgs_ledger.specs.Keys.{code_under};
 
 use super::Ledger;
 use rtgs_book::{Account, Day, Order};
-use rtgs_money::{BusinessDate, Code, KeyDigest};
+use rtgs_money::{BusinessDate, Code, KeyDigest, Units};
 use rtgs_records::queues::laws::queues_are_of_the_waiting;
 use std::alloc::AllocError;
 
@@ -77,6 +77,48 @@ impl Ledger {
         ensures { (book : Book) → IsCoreOf book self.now.core → result ≡ slice_get (codes_of book) index }
     {
         self.records.accounts.code_at(index)
+    }
+
+    /// How many participants there are.
+    pub fn participants(&self) -> usize
+        ensures { (book : Book) → IsCoreOf book self.now.core → result ≡ length book.participants }
+    {
+        self.records.accounts.len()
+    }
+
+    /// All balances together.
+    pub fn total(&self) -> Units
+        ensures { (book : Book) → IsCoreOf book self.now.core → result ≡ total book }
+    {
+        Units::new(self.records.accounts.total())
+    }
+
+    /// The least balance, in cents, that this account may have: minus its credit limit, and 0 while the desk is closed.
+    pub fn floor(&self, account: &Account) -> i64
+        ensures { result ≡ floor_at self.now.core.day.phase account.now.participant.credit }
+    {
+        self.records.floor(account)
+    }
+
+    /// The number that the next posting gets.
+    pub fn next_posting(&self) -> u64
+        ensures { result ≡ self.now.core.next_posting }
+    {
+        self.records.next_posting
+    }
+
+    /// The number that the next order gets.
+    pub fn next_order(&self) -> u64
+        ensures { result ≡ self.now.core.next_order }
+    {
+        self.records.orders.next()
+    }
+
+    /// The number that the next mark gets.
+    pub fn next_mark(&self) -> u64
+        ensures { result ≡ self.now.core.next_mark }
+    {
+        self.records.next_mark
     }
 
     /// Whatever was looked up and adopted, the participants are those of a sound book.

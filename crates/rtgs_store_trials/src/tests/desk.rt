@@ -1,7 +1,9 @@
 //! A desk over a keeper in memory.
 mod calm;
 mod dated;
+mod queues;
 mod readings;
+mod waiting;
 
 use super::scripts::command;
 use super::setting::{alone, desk_over};

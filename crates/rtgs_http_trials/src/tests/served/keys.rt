@@ -21,6 +21,28 @@ POST /desk/close {"date":"2024-03-04"}
 GET /desk/report/2024-03-04
 
 GET /desk/accounts
+
+GET /desk/status
+
+GET /desk/queues
+
+GET /desk/queue/ALFA
+
+GET /desk/held/ALFA
+
+GET /desk/orders/ALFA/A-1
+
+GET /desk/orders/2024-03-04
+
+GET /desk/marks/2024-03-04
+
+GET /desk/statements/ALFA/2024-03-04
+
+POST /desk/orders/ALFA/A-1/withdraw {}
+
+POST /desk/batches/ALFA
+reference,to,amount
+A-1,BETA,100
 "#;
 
 // The banks' routes, each with a good body.
@@ -38,6 +60,10 @@ A-1,BETA,100
 GET /account
 
 GET /queue
+
+GET /held
+
+GET /waiting
 
 GET /statements/2024-03-04
 "#;

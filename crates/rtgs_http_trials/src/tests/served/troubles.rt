@@ -20,11 +20,31 @@ ALFA GET /account
 
 ALFA GET /queue
 
+ALFA GET /held
+
+ALFA GET /waiting
+
 ALFA GET /statements/2024-03-04
 
 OPERATOR GET /desk/report/2024-03-04
 
 OPERATOR GET /desk/accounts
+
+OPERATOR GET /desk/status
+
+OPERATOR GET /desk/queues
+
+OPERATOR GET /desk/queue/ALFA
+
+OPERATOR GET /desk/held/ALFA
+
+OPERATOR GET /desk/orders/ALFA/A-1
+
+OPERATOR GET /desk/orders/2024-03-04
+
+OPERATOR GET /desk/marks/2024-03-04
+
+OPERATOR GET /desk/statements/ALFA/2024-03-04
 ";
 
 // Commands of each route but that of batches, each of which changes something. The last ones are of an automatic day.

@@ -40,6 +40,31 @@ fn queue_of(rt: HostRuntime) -> Result<(), Fail> {
 }
 
 #[test]
+fn held_of(rt: HostRuntime) -> Result<(), Fail> {
+    let reading = Reading::Held {
+        code: code("ALFA")?,
+    };
+    tries(&rt, "tests::in_memory::readings::held_of", reading)
+}
+
+#[test]
+fn waiting_of(rt: HostRuntime) -> Result<(), Fail> {
+    let reading = Reading::Waiting {
+        code: code("ALFA")?,
+    };
+    tries(&rt, "tests::in_memory::readings::waiting_of", reading)
+}
+
+#[test]
+fn status(rt: HostRuntime) -> Result<(), Fail> {
+    let asks = Asks {
+        store: InMemory,
+        question: Question::Reading(Reading::Status),
+    };
+    for_no_request(&rt, "tests::in_memory::readings::status", &asks)
+}
+
+#[test]
 fn order_of(rt: HostRuntime) -> Result<(), Fail> {
     let reading = Reading::Order {
         sender: code("ALFA")?,

@@ -1,14 +1,14 @@
 //! What a desk is asked.
 use super::call::{Call, Outcome};
 use super::page::Page;
-use super::setting::{DAY, desk_after, seen_of};
+use super::setting::{DAY, HELD_DAY, desk_after, seen_of};
 use super::store::Store;
-use rtgs_book::{AccountReading, Order, Reading, Refusal};
+use rtgs_book::{AccountReading, Order, QueueReading, Reading, Refusal, Status, WaitingReading};
 use rtgs_desk::Desk;
 use rtgs_keeper::Keeper;
 use rtgs_money::{Code, KeyDigest};
 use rtgs_output::TextFault;
-use rtgs_statements::{BookTextFault, write_report, write_statement};
+use rtgs_statements::{BookTextFault, write_marks, write_orders, write_report, write_statement};
 use rtgs_tests_desks::desk_over;
 use std::alloc::Global;
 use std::test::Fail;
@@ -19,12 +19,25 @@ pub enum Question {
     CodeOf(KeyDigest),
 }
 
+impl Question {
+    // The day before it. Held orders are asked for where there is one: a list of none takes no memory.
+    fn day(&self) -> &'static str {
+        match self {
+            Question::Reading(Reading::Held { code: _ }) => HELD_DAY,
+            _ => DAY,
+        }
+    }
+}
+
 /// What is answered.
 #[derive(Debug, Drop)]
 pub enum ReadingAnswer {
     Account(Result<AccountReading, Refusal>),
     Accounts(Result<Vec<AccountReading>, Refusal>),
-    Queue(Result<Vec<Order>, Refusal>),
+    Orders(Result<Vec<Order>, Refusal>),
+    Waiting(Result<WaitingReading, Refusal>),
+    Queues(Result<Vec<QueueReading>, Refusal>),
+    Status(Result<Status, Refusal>),
     Order(Result<Order, Refusal>),
     Text(Result<(), BookTextFault>, Page),
     CodeOf(Result<Option<Code>, Refusal>),
@@ -36,7 +49,10 @@ impl ReadingAnswer {
         match self {
             ReadingAnswer::Account(Err(refusal))
             | ReadingAnswer::Accounts(Err(refusal))
-            | ReadingAnswer::Queue(Err(refusal))
+            | ReadingAnswer::Orders(Err(refusal))
+            | ReadingAnswer::Waiting(Err(refusal))
+            | ReadingAnswer::Queues(Err(refusal))
+            | ReadingAnswer::Status(Err(refusal))
             | ReadingAnswer::Order(Err(refusal))
             | ReadingAnswer::Text(Err(BookTextFault::Refused(refusal)), _)
             | ReadingAnswer::CodeOf(Err(refusal)) => Some(*refusal),
@@ -48,7 +64,8 @@ impl ReadingAnswer {
     }
 }
 
-/// A question to a desk over this store, with three banks, a posting, an order that has settled and one that waits.
+/// A question to a desk over this store, with three banks, a posting, an order that has settled and one that waits; or,
+/// of held orders, with one that is held.
 #[derive(Clone, Copy)]
 pub struct Asks<S> {
     pub store: S,
@@ -64,7 +81,7 @@ where
     type Answer = ReadingAnswer;
 
     fn begin(&self, alloc: Global) -> Result<Desk<S::Kept>, Fail> {
-        desk_after(alloc, self.store.keeper(alloc)?, DAY)
+        desk_after(alloc, self.store.keeper(alloc)?, self.question.day())
     }
 
     fn call(&self, alloc: Global, desk: &mut Desk<S::Kept>) -> ReadingAnswer {
@@ -98,7 +115,11 @@ fn answered<K: Keeper>(alloc: Global, desk: &mut Desk<K>, reading: Reading) -> R
     match reading {
         Reading::Account { code } => ReadingAnswer::Account(desk.account(&code)),
         Reading::Accounts => ReadingAnswer::Accounts(desk.accounts()),
-        Reading::Queue { code } => ReadingAnswer::Queue(desk.queue_of(&code)),
+        Reading::Queue { code } => ReadingAnswer::Orders(desk.queue_of(&code)),
+        Reading::Held { code } => ReadingAnswer::Orders(desk.held_of(&code)),
+        Reading::Waiting { code } => ReadingAnswer::Waiting(desk.waiting_of(&code)),
+        Reading::Queues => ReadingAnswer::Queues(desk.queues()),
+        Reading::Status => ReadingAnswer::Status(desk.status()),
         Reading::Order { sender, reference } => ReadingAnswer::Order(desk.order_of(
             &sender, &reference,
         )),
@@ -108,6 +129,14 @@ fn answered<K: Keeper>(alloc: Global, desk: &mut Desk<K>, reading: Reading) -> R
         }
         Reading::Report { date } => {
             let written = write_report(alloc, &mut page, desk, date);
+            ReadingAnswer::Text(written, page)
+        }
+        Reading::Orders { date } => {
+            let written = write_orders(alloc, &mut page, desk, date);
+            ReadingAnswer::Text(written, page)
+        }
+        Reading::Marks { date } => {
+            let written = write_marks(alloc, &mut page, desk, date);
             ReadingAnswer::Text(written, page)
         }
     }

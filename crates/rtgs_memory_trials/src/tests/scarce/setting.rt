@@ -26,6 +26,11 @@ post ALFA P-1 5
 order ALFA A-1 BETA 100
 order ALFA A-2 BETA 7";
 
+/// An open day on which an order of ALFA is held until the day after.
+pub const HELD_DAY: &str = "\
+open 2024-03-04
+order ALFA A-1 BETA 7 due 2024-03-05";
+
 /// An automatic day with a posting, two orders that wait, and one that frees the first of them.
 pub const AUTOMATIC_DAY: &str = "\
 open 2024-03-04 automatic

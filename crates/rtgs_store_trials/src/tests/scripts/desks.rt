@@ -2,7 +2,7 @@
 use super::super::setting::{code, desk_over, reference};
 use super::records::{mark_if_any, order_if_any, posting_if_any, queue_text};
 use super::{Answers, command_of, day_of, follows, reply_text, words_of};
-use rtgs_book::AccountReading;
+use rtgs_book::{AccountReading, QueueReading, ReceiverReading, Tally};
 use rtgs_desk::Desk;
 use rtgs_keeper::Keeper;
 use rtgs_money::BusinessDate;
@@ -24,7 +24,11 @@ impl<K: Keeper> Answers for Desk<K> {
         match words.as_slice() {
             ["account", participant] => account_text(alloc, self, participant),
             ["accounts"] => accounts_text(alloc, self),
+            ["queues"] => queues_text(alloc, self),
             ["queue", sender] => queue_of(alloc, self, sender),
+            ["held", sender] => held_of(alloc, self, sender),
+            ["waiting", sender] => waiting_text(alloc, self, sender),
+            ["status"] => status_text(alloc, self),
             ["kept", sender, name] => kept_order(alloc, self, sender, name),
             ["day"] => day_text(alloc, self),
             ["next-posting", day, after] => next_posting_text(alloc, self, day, after),
@@ -76,6 +80,46 @@ fn queue_of<K: Keeper>(alloc: Global, desk: &Desk<K>, sender: &str) -> Result<St
     queue_text(alloc, queue.as_slice())
 }
 
+/// The sender's held orders, in their order.
+fn held_of<K: Keeper>(alloc: Global, desk: &Desk<K>, sender: &str) -> Result<String, Fail> {
+    // Names the type of due dates for the borrow checker, which finds it nowhere else in this function.
+    let _no_date: Option<BusinessDate> = None;
+    let held = desk.held_of(&code(sender)?)?;
+    queue_text(alloc, held.as_slice())
+}
+
+/// Why the sender's orders wait: the number of the first, the headroom, what it lacks, and what is queued and held.
+fn waiting_text<K: Keeper>(alloc: Global, desk: &Desk<K>, sender: &str) -> Result<String, Fail> {
+    let reading = desk.waiting_of(&code(sender)?)?;
+    let first = match &reading.first {
+        Some(order) => order.number,
+        None => 0,
+    };
+    let (headroom, short) = (reading.headroom, reading.short);
+    let reason = format!(in alloc; "first {first}, {headroom} free, {short} short")?;
+    let waiting = tallies_text(alloc, &reading.queued, &reading.held)?;
+    Ok(format!(in alloc; "{reason}, {waiting}")?)
+}
+
+/// What is queued and held.
+fn tallies_text(alloc: Global, queued: &Tally, held: &Tally) -> Result<String, Fail> {
+    let (count, value) = (queued.count, queued.value);
+    let queued = format!(in alloc; "{count} queued of {value}")?;
+    let (count, value) = (held.count, held.value);
+    Ok(format!(in alloc; "{queued}, {count} held of {value}")?)
+}
+
+/// How the desk stands: its day, the participants with all their cents, what waits, and the numbers that come next.
+fn status_text<K: Keeper>(alloc: Global, desk: &Desk<K>) -> Result<String, Fail> {
+    let status = desk.status()?;
+    let (day, participants, sum) = (status.day, status.participants, status.sum);
+    let begun = format!(in alloc; "{day:?}, {participants} have {sum}")?;
+    let waiting = tallies_text(alloc, &status.queued, &status.held)?;
+    let (posting, order, mark) = (status.next_posting, status.next_order, status.next_mark);
+    let next = format!(in alloc; "next {posting} {order} {mark}")?;
+    Ok(format!(in alloc; "{begun}, {waiting}, {next}")?)
+}
+
 /// The sender's order of this reference, as it is kept.
 fn kept_order<K: Keeper>(
     alloc: Global,
@@ -112,6 +156,44 @@ fn listed_text(alloc: Global, account: &AccountReading) -> Result<String, Fail> 
         account.queued_value,
     );
     Ok(format!(in alloc; "[{code} {cents} {credit} {queued} {value}]")?)
+}
+
+/// All queues, in their order, and `none` where nobody has one.
+fn queues_text<K: Keeper>(alloc: Global, desk: &Desk<K>) -> Result<String, Fail> {
+    let mut text = String::new(alloc);
+    let queues = desk.queues()?;
+    if queues.is_empty() {
+        text.push_str("none")?;
+    }
+    for queue in queues.as_slice() {
+        let shown = shown_queue(alloc, queue)?;
+        text.push_str(shown.as_str())?;
+    }
+    Ok(text)
+}
+
+/// The code, the first order, the headroom and what it is short of; then how many orders are queued and how many would
+/// settle, each with what they pay; and the receivers.
+fn shown_queue(alloc: Global, queue: &QueueReading) -> Result<String, Fail> {
+    let (code, first) = (queue.code, queue.first.reference);
+    let (headroom, short) = (queue.headroom.cents(), queue.short);
+    let (queued, value) = (queue.queued, queue.queued_value);
+    let (settling, settled) = (queue.settling, queue.settling_value);
+    let mut text = format!(in alloc;
+        "[{code} {first} {headroom} {short}|{queued} {value}|{settling} {settled}"
+    )?;
+    for receiver in queue.receivers.as_slice() {
+        let shown = shown_receiver(alloc, receiver)?;
+        text.push_str(shown.as_str())?;
+    }
+    text.push_str("]")?;
+    Ok(text)
+}
+
+/// The code, how many orders pay it, and how much.
+fn shown_receiver(alloc: Global, receiver: &ReceiverReading) -> Result<String, Fail> {
+    let (to, queued, value) = (receiver.to, receiver.queued, receiver.queued_value);
+    Ok(format!(in alloc; "|{to} {queued} {value}")?)
 }
 
 /// The business day.

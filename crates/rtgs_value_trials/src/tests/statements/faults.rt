@@ -3,7 +3,7 @@ use super::super::books::book_of;
 use super::super::setting::{MONDAY, code, date};
 use super::shelf::Shelf;
 use rtgs_output::TextFault;
-use rtgs_statements::{BookTextFault, write_report, write_statement};
+use rtgs_statements::{BookTextFault, write_marks, write_orders, write_report, write_statement};
 use std::alloc::Global;
 use std::io::{Error, ErrorKind, Result as IoResult, Write};
 use std::test::Fail;
@@ -60,18 +60,75 @@ order 1 ALFA BETA A-1 1 2024-03-04 1
 mark 1 2024-03-04 1 1
 ";
 
-// ALFA's statement.
-fn small_statement<W: Write>(alloc: Global, out: &mut W) -> Result<Ended, Fail> {
-    let mut shelf = Shelf::new(book_of(alloc, QUEUED)?);
-    let ended = write_statement(alloc, out, &mut shelf, &code("ALFA")?, date(MONDAY)?);
-    Ok(Ended::of(&ended))
+/// Which text is written.
+#[derive(Clone, Copy, Debug, PartialEq, Eq)]
+enum Text {
+    Statement,
+    Report,
+    Orders,
+    Marks,
 }
 
-// The report of that day.
-fn small_report<W: Write>(alloc: Global, out: &mut W) -> Result<Ended, Fail> {
-    let mut shelf = Shelf::new(book_of(alloc, SETTLED)?);
-    let ended = write_report(alloc, out, &mut shelf, date(MONDAY)?);
-    Ok(Ended::of(&ended))
+const TEXTS: [Text; 4] = [Text::Statement, Text::Report, Text::Orders, Text::Marks];
+
+impl Text {
+    // ALFA's statement is of its queued order, and the other texts of the settled one.
+    fn records(self) -> &'static str {
+        if self == Text::Statement {
+            QUEUED
+        } else {
+            SETTLED
+        }
+    }
+
+    /// Writes it, for that day.
+    fn write<W: Write>(self, alloc: Global, out: &mut W) -> Result<Ended, Fail> {
+        let (alfa, monday) = (code("ALFA")?, date(MONDAY)?);
+        let mut shelf = Shelf::new(book_of(alloc, self.records())?);
+        let ended = match self {
+            Text::Statement => write_statement(alloc, out, &mut shelf, &alfa, monday),
+            Text::Report => write_report(alloc, out, &mut shelf, monday),
+            Text::Orders => write_orders(alloc, out, &mut shelf, monday),
+            Text::Marks => write_marks(alloc, out, &mut shelf, monday),
+        };
+        Ok(Ended::of(&ended))
+    }
+
+    /// All its bytes.
+    fn whole(self, alloc: Global) -> Result<Vec<u8>, Fail> {
+        let mut out = Vec::new(alloc);
+        match self.write(alloc, &mut out)? {
+            Ended::Whole => Ok(out),
+            _ => Err(Fail::from("the text is not whole")),
+        }
+    }
+
+    /// For a writer that takes this many bytes at a call, and fails after this many calls, it ends so with these bytes.
+    fn ends(
+        self,
+        alloc: Global,
+        width: usize,
+        calls: usize,
+        wanted: Ended,
+        text: &[u8],
+    ) -> Result<(), Fail> {
+        let mut out = Narrow::new(alloc, width, calls);
+        let ended = self.write(alloc, &mut out)?;
+        if ended == wanted && out.taken.as_slice() == text {
+            Ok(())
+        } else {
+            Err(Fail::from("it ended otherwise, or another text was written"))
+        }
+    }
+
+    /// For a writer that takes a byte at a call, it ends at the call that fails, whichever that is.
+    fn ends_at_each_byte(self, alloc: Global) -> Result<(), Fail> {
+        let whole = self.whole(alloc)?;
+        for calls in 0..whole.len() {
+            self.ends(alloc, 1, calls, Ended::WriterFailed, &whole[..calls])?;
+        }
+        self.ends(alloc, 1, whole.len(), Ended::Whole, whole.as_slice())
+    }
 }
 
 // How a text ended.
@@ -97,91 +154,44 @@ impl Ended {
     }
 }
 
-fn whole_statement(alloc: Global) -> Result<Vec<u8>, Fail> {
-    let mut out = Vec::new(alloc);
-    match small_statement(alloc, &mut out)? {
-        Ended::Whole => Ok(out),
-        _ => Err(Fail::from("the statement is not whole")),
-    }
-}
-
-fn whole_report(alloc: Global) -> Result<Vec<u8>, Fail> {
-    let mut out = Vec::new(alloc);
-    match small_report(alloc, &mut out)? {
-        Ended::Whole => Ok(out),
-        _ => Err(Fail::from("the report is not whole")),
-    }
-}
-
-// A text ended so, and its writer has this of it.
-fn has_written(out: &Narrow, ended: Ended, wanted: Ended, text: &[u8]) -> Result<(), Fail> {
-    if ended == wanted && out.taken.as_slice() == text {
-        Ok(())
-    } else {
-        Err(Fail::from("it ended otherwise, or another text was written"))
-    }
-}
-
-// A statement for a writer that takes this many bytes at a call, and fails after this many calls, ends so with this
-// text.
-fn statement_for(
-    alloc: Global,
-    width: usize,
-    calls: usize,
-    wanted: Ended,
-    text: &[u8],
-) -> Result<(), Fail> {
-    let mut out = Narrow::new(alloc, width, calls);
-    let ended = small_statement(alloc, &mut out)?;
-    has_written(&out, ended, wanted, text)
-}
-
-// So does a report.
-fn report_for(
-    alloc: Global,
-    width: usize,
-    calls: usize,
-    wanted: Ended,
-    text: &[u8],
-) -> Result<(), Fail> {
-    let mut out = Narrow::new(alloc, width, calls);
-    let ended = small_report(alloc, &mut out)?;
-    has_written(&out, ended, wanted, text)
-}
-
 #[test]
-fn statement_ends_at_the_write_that_fails(rt: HostRuntime) -> Result<(), Fail> {
-    let whole = whole_statement(rt.alloc())?;
-    for calls in 0..whole.len() {
-        statement_for(rt.alloc(), 1, calls, Ended::WriterFailed, &whole[..calls])?;
+fn each_text_ends_at_the_byte_that_fails(rt: HostRuntime) -> Result<(), Fail> {
+    for text in TEXTS {
+        text.ends_at_each_byte(rt.alloc())?;
     }
-    statement_for(rt.alloc(), 1, whole.len(), Ended::Whole, whole.as_slice())
+    Ok(())
 }
 
 #[test]
 fn statement_is_written_line_by_line(rt: HostRuntime) -> Result<(), Fail> {
-    let whole = whole_statement(rt.alloc())?;
+    let whole = Text::Statement.whole(rt.alloc())?;
     let title = "statement ALFA 2024-03-04\n".len();
     // A title, two rows and four sums, which are written at once.
     let ends = [0, title, title + 78, title + 156];
     for calls in 0..4 {
         let end = whole.len().min(ends[calls]);
-        statement_for(rt.alloc(), 500, calls, Ended::WriterFailed, &whole[..end])?;
+        Text::Statement.ends(rt.alloc(), 500, calls, Ended::WriterFailed, &whole[..end])?;
     }
-    statement_for(rt.alloc(), 500, 4, Ended::Whole, whole.as_slice())
+    Text::Statement.ends(rt.alloc(), 500, 4, Ended::Whole, whole.as_slice())
 }
 
 #[test]
-fn report_ends_at_the_byte_that_fails(rt: HostRuntime) -> Result<(), Fail> {
-    let whole = whole_report(rt.alloc())?;
-    for calls in 0..whole.len() {
-        report_for(rt.alloc(), 1, calls, Ended::WriterFailed, &whole[..calls])?;
+fn orders_and_marks_are_written_line_by_line(rt: HostRuntime) -> Result<(), Fail> {
+    for text in [Text::Orders, Text::Marks] {
+        let whole = text.whole(rt.alloc())?;
+        let header = whole.iter().take_while(|byte| **byte != b'\n').count() + 1;
+        let end = whole.len().min(header);
+        text.ends(rt.alloc(), 500, 0, Ended::WriterFailed, b"")?;
+        text.ends(rt.alloc(), 500, 1, Ended::WriterFailed, &whole[..end])?;
+        text.ends(rt.alloc(), 500, 2, Ended::Whole, whole.as_slice())?;
     }
-    report_for(rt.alloc(), 1, whole.len(), Ended::Whole, whole.as_slice())
+    Ok(())
 }
 
 #[test]
 fn write_that_takes_no_byte_is_a_fault(rt: HostRuntime) -> Result<(), Fail> {
-    statement_for(rt.alloc(), 0, 9, Ended::NothingTaken, b"")?;
-    report_for(rt.alloc(), 0, 9, Ended::NothingTaken, b"")
+    for text in TEXTS {
+        text.ends(rt.alloc(), 0, 9, Ended::NothingTaken, b"")?;
+    }
+    Ok(())
 }

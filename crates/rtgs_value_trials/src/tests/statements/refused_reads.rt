@@ -3,7 +3,7 @@ use super::super::books::book_of;
 use super::super::setting::{MONDAY, code, date};
 use super::shelf::{Shelf, Trouble};
 use rtgs_book::Refusal;
-use rtgs_statements::{BookTextFault, write_report, write_statement};
+use rtgs_statements::{BookTextFault, write_marks, write_orders, write_report, write_statement};
 use rtgs_tests_desks::ensure;
 use std::alloc::Global;
 use std::test::Fail;
@@ -72,6 +72,32 @@ fn report(alloc: Global, mut shelf: Shelf) -> Result<Tried, Fail> {
     let monday = date(MONDAY)?;
     let mut out = Vec::new(alloc);
     let ended = write_report(alloc, &mut out, &mut shelf, monday);
+    let has_failed = shelf.has_failed();
+    Ok(Tried {
+        out,
+        ended,
+        has_failed,
+    })
+}
+
+// The orders of the day from this shelf.
+fn orders(alloc: Global, mut shelf: Shelf) -> Result<Tried, Fail> {
+    let monday = date(MONDAY)?;
+    let mut out = Vec::new(alloc);
+    let ended = write_orders(alloc, &mut out, &mut shelf, monday);
+    let has_failed = shelf.has_failed();
+    Ok(Tried {
+        out,
+        ended,
+        has_failed,
+    })
+}
+
+// The marks of the day from this shelf.
+fn marks(alloc: Global, mut shelf: Shelf) -> Result<Tried, Fail> {
+    let monday = date(MONDAY)?;
+    let mut out = Vec::new(alloc);
+    let ended = write_marks(alloc, &mut out, &mut shelf, monday);
     let has_failed = shelf.has_failed();
     Ok(Tried {
         out,
@@ -172,6 +198,46 @@ fn each_read_of_a_report_is_refused_in_turn(rt: HostRuntime) -> Result<(), Fail>
             is_no_report(rt.alloc(), reads, trouble)?;
         }
         is_whole_report(rt.alloc(), whole.out.as_slice(), 9, trouble)?;
+    }
+    Ok(())
+}
+
+// What was tried ended by this trouble, with this many lines of the whole text.
+fn is_begun(tried: &Tried, whole: &[u8], lines: usize, trouble: Trouble) -> Result<(), Fail> {
+    ensure(
+        tried.is_by(trouble)
+            && whole.starts_with(tried.out.as_slice())
+            && lines_of(tried.out.as_slice()) == lines,
+    )
+}
+
+#[test]
+fn each_read_of_orders_is_refused_in_turn(rt: HostRuntime) -> Result<(), Fail> {
+    let whole = orders(rt.alloc(), Shelf::new(book_of(rt.alloc(), RECORDS)?))?;
+    ensure(whole.is_well() && lines_of(whole.out.as_slice()) == 3)?;
+    for trouble in [Trouble::StoreFault, Trouble::OutOfMemory] {
+        // A line is written once the next order was read: after each read one more.
+        for reads in 0..3 {
+            let tried = orders(rt.alloc(), failing(rt.alloc(), reads, trouble)?)?;
+            is_begun(&tried, whole.out.as_slice(), reads, trouble)?;
+        }
+        let tried = orders(rt.alloc(), failing(rt.alloc(), 3, trouble)?)?;
+        ensure(tried.is_well() && tried.out.as_slice() == whole.out.as_slice())?;
+    }
+    Ok(())
+}
+
+#[test]
+fn each_read_of_marks_is_refused_in_turn(rt: HostRuntime) -> Result<(), Fail> {
+    let whole = marks(rt.alloc(), Shelf::new(book_of(rt.alloc(), RECORDS)?))?;
+    ensure(whole.is_well() && lines_of(whole.out.as_slice()) == 2)?;
+    for trouble in [Trouble::StoreFault, Trouble::OutOfMemory] {
+        for reads in 0..2 {
+            let tried = marks(rt.alloc(), failing(rt.alloc(), reads, trouble)?)?;
+            is_begun(&tried, whole.out.as_slice(), reads, trouble)?;
+        }
+        let tried = marks(rt.alloc(), failing(rt.alloc(), 2, trouble)?)?;
+        ensure(tried.is_well() && tried.out.as_slice() == whole.out.as_slice())?;
     }
     Ok(())
 }

@@ -24,7 +24,7 @@ pub returns-clause-plans : goal.returns-clause-plans
 returns-clause-plans c =
     let plan : Plan = record {
       caller = c.in-Ok-of_key.caller;
-      parameter = c.in-Ok.found.1;
+      parameters = c.in-Ok.found.1;
       posts = c.posts-posts.result;
       length = c.in-Some.head.length;
     } in
