@@ -5,9 +5,9 @@ and the status 0. The money must have moved once. A peer that is refused, and th
 send them and get its whole reply, and the next one its own within two seconds, while the first stays. A long reply to a
 peer that reads slowly must be what the program prints. A server of a million connections must serve the first ones.
 Each must listen at the very port that it is given, below 1024 too, or be refused. The resolver must be asked once for a
-command that resolves, for a close that is refused and for one that is not, and not for others. The tests of the gate
-serve over a real port from a child of the test; this is the program itself. Without a C compiler, `cc`, the resolutions
-are not counted.
+command that resolves, for a close that is refused and for one that is not, on an automatic day once for what a command
+frees and once for new limits, and not for others. The tests of the gate serve over a real port from a child of the
+test; this is the program itself. Without a C compiler, `cc`, the resolutions are not counted.
 
 Shows: that the program takes connections, acts once on what is sent twice, replies to the byte, and ends as it says;
 and that no resolution is done twice.
@@ -136,12 +136,13 @@ def operator(path, **body):
     return desks.request("POST", f"/desk/{path}", desks.OPERATOR, json.dumps(body))
 
 
-def pays(sender, receiver, cents):
-    return desks.order(key_of(full.CODES[sender]), full.CODES[receiver], 1, cents)
+def pays(sender, receiver, cents, number=1):
+    return desks.order(key_of(full.CODES[sender]), full.CODES[receiver], number, cents)
 
 
 # What a book of a hundred banks is given, of which the first has money: what it answers, and how often the resolver is
-# asked for it. Two orders wait for each other as the day is to be closed.
+# asked for it. Two orders wait for each other as the day is to be closed. On the automatic day after it the resolver is
+# asked once more behind what it settled, for the limits at which it has to be asked again.
 GIVEN = (("an order that waits", pays(1, 0, 20), "queued", 0),
          ("an order that waits for it", pays(0, 1, CENTS + 10), "queued", 0),
          ("a cut-off", operator("cutoff", date=desks.DATE), "cut off", 0),
@@ -149,7 +150,11 @@ GIVEN = (("an order that waits", pays(1, 0, 20), "queued", 0),
          ("a resolution", operator("resolve"), "resolved", 1),
          ("a resolution of nothing", operator("resolve"), "nothing", 1),
          ("a close", operator("close", date=desks.DATE), "closed", 1),
-         ("a close that comes again", operator("close", date=desks.DATE), "repeated", 0))
+         ("a close that comes again", operator("close", date=desks.DATE), "repeated", 0),
+         ("an automatic day", operator("open", automatic=True, date=desks.weekday(1)), "opened", 1),
+         ("an order that waits on it", pays(0, 1, 100, 2), "queued", 0),
+         ("an order that frees it", pays(1, 0, 95, 2), "settled", 2),
+         ("an order that frees none", pays(1, 2, 1, 3), "settled", 0))
 
 
 def answer_in(reply):
