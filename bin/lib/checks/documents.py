@@ -36,6 +36,7 @@ AUDIT = "docs/audit.sql"
 SPECIFICATION, OPERATORS = "docs/SPECIFICATION.md", "docs/OPERATORS.md"
 AUDITORS, OPENAPI, MAN_PAGE = "docs/AUDITORS.md", "docs/openapi.yaml", "docs/desk.1.in"
 CALLERS = "docs/CALLERS.md"
+RELEASE = "crates/rtgs_release/src/lib.rt"
 FORM = ["Chosen", "Because", "Instead of", "Price"]
 PROMISE = re.compile(r"((?:^///[^\n]*\n)+)// To judge it, read (?:[^\n]*\n)(?:// [^\n]*\n)*^pub fn (\w+)", re.M)
 # what stands for a name, or is made by a run
@@ -363,7 +364,9 @@ def versions(sees):
     newest = newest[1].partition(", commit ")[0]
     sees("the newest version in CHANGELOG.md", newest, f"{program}, tables version {tables_are}")
     sees(f"the newest version in {CALLERS}", re.search(r"^## (.*)$", read(CALLERS), re.M)[1], program)
-    sees(f"versions in {OPENAPI}", re.findall(r"^  version: (.*)$", read(OPENAPI), re.M), [program])
+    sees(f"versions in {OPENAPI}", set(re.findall(r"^ +version: (\d.*)$", read(OPENAPI), re.M)), {program})
+    released = re.findall(r'^pub const \w+: .* = "?([\d.]+)"?;$', read(RELEASE), re.M)
+    sees(f"versions in {RELEASE}", released, [program, tables_are])
     shown = re.findall(r"^    desk (\d.*)$", read(OPERATORS), re.M)
     sees(f"versions that {OPERATORS} shows", shown, [f"{program}, tables {tables_are}"])
     # (bin/install takes it from the program)

@@ -235,6 +235,9 @@ class Documents(unittest.TestCase):
         for name, old, what in (("CHANGELOG.md", r"(?m)^## \d", "the newest version in CHANGELOG.md"),
                                 ("docs/CALLERS.md", r"(?m)^## \d", "the newest version in docs/CALLERS.md"),
                                 ("docs/openapi.yaml", r"(?m)^  version: \d", "versions in docs/openapi.yaml"),
+                                ("docs/openapi.yaml", r"(?m)^ {3,}version: \d", "versions in docs/openapi.yaml"),
+                                (documents.RELEASE, r'PROGRAM_VERSION: &str = "\d', f"versions in {documents.RELEASE}"),
+                                (documents.RELEASE, r"TABLES_VERSION: u64 = \d", f"versions in {documents.RELEASE}"),
                                 ("docs/OPERATORS.md", r"(?m)^    desk \d", "versions that docs/OPERATORS.md shows"),
                                 ("docs/desk.1.in", "@VERSION@", "the version of docs/desk.1.in"),
                                 ("README.md", "`rattle-kit-", "kits that README.md names")):
