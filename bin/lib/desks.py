@@ -6,11 +6,13 @@ import json
 import os
 import re
 import shutil
+import signal
 import socket
 import statistics
 import subprocess
 import sys
 import tempfile
+import time
 
 import kit
 from lib import unproved
@@ -194,6 +196,18 @@ class Listening:
         """Returns the server's memory in kB: VmRSS what it has now, VmHWM the most that it had."""
         with open(f"/proc/{self.process.pid}/status", encoding="utf-8") as status:
             return int(next(line.split()[1] for line in status if line.startswith(what)))
+
+    def used(self):
+        """Returns the memory that the server uses, in kB, once it gave back what it does not. It needs the library
+        `giving`."""
+        self.process.send_signal(signal.SIGUSR1)
+        time.sleep(1)
+        return self.memory()
+
+    def forget_peak(self):
+        """Has the most memory that the server had counted from now on."""
+        with open(f"/proc/{self.process.pid}/clear_refs", "w", encoding="utf-8") as it:
+            it.write("5")
 
     def processor_time(self):
         """Returns how many seconds of a processor the server has had. It is of one thread."""

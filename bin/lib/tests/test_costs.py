@@ -7,7 +7,7 @@ import sys
 import unittest
 from unittest import mock
 
-from lib import day_costs, desks, queues, resolutions
+from lib import day_costs, desks, queues, reading_costs, resolutions
 
 FULL, MANY = 49500, 500
 
@@ -35,6 +35,37 @@ class Queues(unittest.TestCase):
                 seen.append(bank)
                 bank = queues.rings(bank, step)[0]
             self.assertEqual((bank, len(seen)), (0, length))
+
+
+class Readings(unittest.TestCase):
+    def server(self, reply):
+        """Returns a server that uses 100 kB, and has 350 at most once its peak was forgotten."""
+        server, most = mock.MagicMock(), [900]
+        server.used.return_value, server.asked.return_value = 100, reply
+        server.forget_peak.side_effect = lambda: most.append(350)
+        server.memory.side_effect = lambda what: {"VmHWM": most[-1]}[what]
+        return server
+
+    def test_the_memory_is_what_the_server_has_more_at_most(self):
+        server = self.server(b"HTTP/1.1 200 OK\r\n\r\n{}")
+        self.assertEqual(reading_costs.peak(server, "/desk/status"), (2, 250))
+
+    def test_a_reading_that_is_refused_is_not_measured(self):
+        for path in ("/desk/status", "/waiting"):
+            with self.assertRaises(desks.Broken):
+                reading_costs.asked(self.server(b"HTTP/1.1 403 Forbidden\r\n\r\n{}"), path)
+
+    def test_a_bank_asks_with_a_key_of_its_own(self):
+        server = self.server(b"HTTP/1.1 200 OK\r\n\r\n{}")
+        for path in ("/desk/status", "/waiting"):
+            reading_costs.asked(server, path)
+        sent = [it.args[0] for it in server.asked.call_args_list]
+        self.assertEqual([desks.OPERATOR.encode() in it for it in sent], [True, False])
+
+    def test_each_book_has_its_readings(self):
+        found = list(reading_costs.books())
+        self.assertEqual([len(book.orders) for book, _ in found], [50_000] * 3)
+        self.assertEqual([len(paths) for _, paths in found], [5, 2, 4])
 
 
 class Commands(unittest.TestCase):
