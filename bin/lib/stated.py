@@ -118,6 +118,7 @@ TEXTS = {
         "between -{least:d} times {total_bound:p} and {least:d} times {total_bound:p}",
         "at most {looks} by a search of halves",
         "at most {leaps} leaps of at most {in_a_row} looks each",
+        "fewer than {queues},000 bytes (tested)",
         "let go (that it is after {request:w} seconds was read)",
         "numbers have at most {number:n} digits",
     ],
