@@ -1,72 +1,70 @@
 // The operator's console of the desk. It judges nothing: it shows what the desk reads out, asks before it sends a
 // command, and tells the desk's answer. This file begins and ends it: the key is typed, and forgotten.
-import { forgetKey, isUnlocked, keepKey } from "./asking.js";
+import { isUnlocked, useKey } from "./asking.js";
 import * as dialog from "./dialog.js";
-import { $ } from "./elements.js";
+import { $, explained, on } from "./elements.js";
 import * as lookup from "./lookup.js";
 import { showBanks, shows } from "./overview.js";
-import { all, freshness, readings, start, stop } from "./polling.js";
+import { all, freshness, isLate, readings, start, stop } from "./polling.js";
 
-const EMPTIED = "tbody, tfoot, #figures, #ready, #desk, #outcome, #graph, #day span, #phase, #fresh, #waits-said";
+const EMPTIED = "tbody, tfoot, #figures, #ready, #desk, #outcome, #drawn, #day span, #phase, #fresh, #waits-said, "
+  + "#fields, #says, #warns, #wire, #answer, #look-fields, #look-answer, #look-head, #look-sums, #look-text";
+const clock = (at) => new Date(at).toLocaleTimeString("en-GB");
+const seconds = (time) => Math.max(0, Math.round(time / 1000));
 
-/** Tells each second how old the readings are. */
+/** Tells each second how old the readings are. What is read aloud has no number that changes each second. */
 function tick() {
   if (!isUnlocked()) return;
-  const seconds = (time) => Math.max(0, Math.round(time / 1000));
-  const clock = (at) => new Date(at).toLocaleTimeString("en-GB");
   for (const it of document.querySelectorAll("[data-reading]")) {
-    const { at } = readings[it.dataset.reading] ?? {};
-    it.textContent = at ? `As of ${clock(at)}.` : "Not read yet.";
+    const { at } = readings[it.dataset.reading] ?? {}, sign = isLate(it.dataset.reading) ? "STALE: as" : "As";
+    it.textContent = at ? `${sign} of ${clock(at)}.` : "Not read yet.";
   }
   const { at, stale, said, tries, next } = freshness(), { phase = "", date = "" } = readings.accounts?.data ?? {};
-  document.body.classList.toggle("stale", stale);
-  $("fresh").textContent = `${stale ? "STALE: " : ""}${
-    at ? `as of ${clock(at)}, ${seconds(Date.now() - at)} s ago` : "nothing read yet"}`;
-  if ($("alarm").hidden === stale) $("alarm").hidden = !stale;
-  // (what is read aloud at each change has no number that changes each second)
+  const sign = stale ? "STALE: " : "";
   const told = `${at ? `These figures are stale: they are as of ${clock(at)}.` : "Nothing was read yet."} ${said}`;
+  document.body.classList.toggle("stale", stale);
+  document.title = `${sign}${phase} ${date} Settlement desk`.replace(/ +/g, " ").trim();
+  $("fresh").textContent = sign + (at ? `as of ${clock(at)}, ${seconds(Date.now() - at)} s ago` : "nothing read yet");
+  $("alarm").hidden = !stale;
   if ($("alarm-text").textContent !== told) $("alarm-text").textContent = told;
   $("alarm-next").textContent = next ? `Try ${tries + 1} in ${seconds(next - Date.now())} s.` : "";
-  document.title = `${stale ? "STALE " : ""}${phase} ${date} Settlement desk`.replace(/ +/g, " ").trim();
-  lookup.propose(date);
+  lookup.renew(readings.accounts?.data);
 }
 
-/** Keeps the key that was typed, and begins. The field is emptied at once. */
 function unlock() {
-  keepKey($("key").value, lock);
-  $("key").value = "";
+  useKey($("key").value, lock);
+  $("key").value = document.body.className = "";
   $("locked").replaceChildren();
-  [$("main").hidden, $("unlock").hidden] = [false, true];
   $("day-head").focus();
-  start(shows(dialog.begin), tick);
+  start(shows, tick);
 }
 
 /** Forgets the key and all that was read, and says why. The journal stays until the page is left. */
-function lock(refused) {
-  forgetKey();
+function lock({ refused }) {
+  useKey(null);
   stop();
   lookup.forget();
-  if ($("dialog").open) $("dialog").close();
+  $("dialog").close();
   for (const it of document.querySelectorAll(EMPTIED)) it.replaceChildren();
-  $("form").reset();
-  document.body.className = document.body.dataset.phase = "";
-  document.title = "Settlement desk";
-  [$("main").hidden, $("unlock").hidden] = [true, false];
-  $("locked").replaceChildren(...(refused?.code ? dialog.explained(refused) : []));
+  [document.title, document.body.className, document.body.dataset.phase] = ["Settlement desk", "locked", ""];
+  $("locked").replaceChildren(...(refused ? explained({ refused }) : []));
   $("key").focus();
 }
 
-$("key-form").addEventListener("submit", (event) => {
-  event.preventDefault();
-  unlock();
+document.addEventListener("submit", (event) => event.preventDefault());
+document.addEventListener("click", ({ target }) => {
+  const { command, look, ...values } = target.dataset;
+  if (command) dialog.begin(command, values);
+  if (look) lookup.look(look, values);
 });
-$("lock").addEventListener("click", lock);
-$("print").addEventListener("click", () => window.print());
-$("now").addEventListener("click", all);
-$("sort").addEventListener("change", () => showBanks(readings.accounts.data, dialog.begin));
+on("key-form", "submit", unlock);
+on("lock", "click", lock);
+on("print", "click", () => window.print());
+on("now", "click", all);
+on("sort", "change", showBanks);
 dialog.enable();
-lookup.enable(dialog.begin, dialog.explained);
-// a page that is left forgets the key, also where the browser keeps the page for the way back
+lookup.enable();
+// (a browser may keep the page that is left for the way back)
 window.addEventListener("pagehide", lock);
 window.addEventListener("beforeunload", (event) => dialog.isUsed() && event.preventDefault());
 setInterval(tick, 1000);

@@ -1,130 +1,94 @@
-// The picture of who waits for whom. Presentation attributes and classes alone: the policy allows no style in markup.
+// The picture of who waits for whom. Attributes and classes alone: the policy allows no style in markup.
+import { equipped } from "./elements.js";
 import { shown } from "./values.js";
 import { payers, rings } from "./waits.js";
 
-const [WIDTH, HEIGHT] = [600, 520];
-/** With more banks or more arrows than these the picture is a matrix. */
-const BANKS = 16, ARROWS = 48;
+const [WIDTH, HEIGHT, STEP, EDGE] = [600, 520, 16, 100];
+const BANKS = 16, ARROWS = 48; // with more than these the picture is a matrix
 const about = new Intl.NumberFormat("en", { notation: "compact", maximumSignificantDigits: 3 });
 
-function part(name, attributes, text = "") {
-  const it = document.createElementNS("http://www.w3.org/2000/svg", name);
-  for (const [key, value] of Object.entries(attributes)) it.setAttribute(key, value);
-  it.textContent = text;
-  return it;
-}
+const part = (name, attributes, ...within) =>
+  equipped(document.createElementNS("http://www.w3.org/2000/svg", name), attributes, within);
+/** Returns a shape in the middle of a place. Shapes tell the kinds apart, not colours alone. */
+const shape = (isRound, x, y, half, kind, ...within) => (isRound
+  ? part("circle", { class: kind, cx: x, cy: y, r: half }, ...within)
+  : part("rect", { class: kind, x: x - half, y: y - half, width: 2 * half, height: 2 * half }, ...within));
 
-/** Returns the codes that stand in the picture, in groups round the circle: each ring, along its first orders so that
- * it looks like one, then the other banks with a queue, then those without. */
+/** Returns the codes in groups: each ring along its first orders, then other banks with a queue, then those without. */
 function groups(queues) {
-  const by = new Map(queues.map((it) => [it.code, it])), had = new Set(), found = [];
-  const add = (codes) => {
-    const fresh = codes.filter((it) => !had.has(it));
-    fresh.forEach((it) => had.add(it));
-    if (fresh.length) found.push(fresh);
-  };
-  for (const ring of rings(queues)) {
-    const along = new Set();
-    for (const start of ring) {
-      for (let at = start; ring.includes(at) && !along.has(at); at = by.get(at).first.to) along.add(at);
+  const next = new Map(queues.map(({ code, first }) => [code, first.to])), had = new Set();
+  const along = (ring) => {
+    const found = new Set();
+    for (let at = ring[0]; found.size < ring.length; at = next.get(at)) {
+      if (!ring.includes(at) || found.has(at)) at = ring.find((it) => !found.has(it));
+      found.add(at);
     }
-    add([...along]);
-  }
-  add([...queues].sort((a, b) => (a.queued_value < b.queued_value ? 1 : -1)).map(({ code }) => code));
-  add([...payers(queues).keys()].sort());
-  return found;
+    return [...found];
+  };
+  const waiting = [...queues].sort((a, b) => (a.queued_value < b.queued_value ? 1 : -1)).map(({ code }) => code);
+  const fresh = (codes) => codes.filter((it) => !had.has(it) && had.add(it));
+  return [...rings(queues).map(along), waiting, [...payers(queues).keys()].sort()].map(fresh).filter((it) => it.length);
 }
 
-/** Returns the arrow between two places, bent to the left of its way: two arrows between the same banks stay apart, and
- * those along a ring keep to the outside. */
-function arrow(from, to, kind, width, told) {
+/** Returns the arrow between two places, and its amount. It is bent to the left of its way: that back stays apart. */
+function arrow(from, to, { kind, value, told }) {
   const [dx, dy] = [to.x - from.x, to.y - from.y], far = Math.hypot(dx, dy), by = Math.max(1 / 7, 20 / far);
   const bend = { x: from.x + dx / 2 + dy * by, y: from.y + dy / 2 - dx * by };
-  const cut = (at) => {
-    const [x, y] = [bend.x - at.x, bend.y - at.y], long = Math.hypot(x, y) || 1;
-    return [at.x + (x / long) * 13, at.y + (y / long) * 13];
-  };
-  const [a, b] = [cut(from), cut(to)];
-  const path = part("path", { class: `arrow ${kind}`, "stroke-width": width, "marker-end": `url(#head-${kind})`,
-    d: `M${a}Q${bend.x} ${bend.y} ${b}` });
-  path.append(part("title", {}, told));
-  const t = far < 150 ? 0.5 : 0.4, on = (p, q, r) => p * (1 - t) ** 2 + q * 2 * t * (1 - t) + r * t ** 2;
-  return { path, far, x: on(a[0], bend.x, b[0]), y: on(a[1], bend.y, b[1]) + 4 };
+  const path = part("path", { class: `arrow ${kind}`, d: `M${from.x} ${from.y}Q${bend.x} ${bend.y} ${to.x} ${to.y}`,
+    "marker-end": "url(#head)" }, part("title", {}, told));
+  const isNear = far < 150, amount = kind !== "later" || !isNear ? about.format(Number(value) / 100) : "";
+  // (beside a short arrow, and on a long one, nearer to where it begins)
+  const on = (axis) => (isNear ? bend[axis] : 0.36 * from[axis] + 0.48 * bend[axis] + 0.16 * to[axis]);
+  return [path, part("text", { x: on("x"), y: on("y") + 4, class: "amount" }, amount)];
 }
 
-/** Draws the queues as a matrix: a row for each bank that would pay, a column for each that would be paid. */
-function matrix(svg, codes, pairs) {
-  const step = 16, edge = 100, most = pairs.reduce((it, { value }) => (value > it ? value : it), 1n), parts = [];
-  const at = new Map(codes.map((code, i) => [code, edge + i * step + step / 2]));
-  const size = edge + codes.length * step + 10;
-  for (const [code, place] of at) {
-    parts.push(part("path", { class: "grid", d: `M${edge} ${place}H${size}M${place} ${edge}V${size}` }),
-      part("text", { x: edge - 6, y: place + 5, class: "code", "text-anchor": "end" }, code),
-      part("text", { x: 6, y: 5, class: "code", transform: `translate(${place} ${edge})rotate(-90)` }, code));
-  }
-  for (const { from, to, kind, value, told } of pairs) {
-    const half = 2 + (step / 2 - 3) * Math.sqrt(Number(value) / Number(most)), [x, y] = [at.get(to), at.get(from)];
-    const cell = kind === "later" ? part("circle", { cx: x, cy: y, r: half, class: `cell ${kind}` })
-      : part("rect", { x: x - half, y: y - half, width: 2 * half, height: 2 * half, class: `cell ${kind}` });
-    cell.append(part("title", {}, told));
-    parts.push(cell);
-  }
-  svg.setAttribute("viewBox", `0 0 ${size} ${size}`);
-  svg.replaceChildren(...parts);
+function node(code, { x, y, cos, sin }, it) {
+  const kind = !it ? "none" : it.settling ? "settles" : "first", side = Math.abs(cos) < 0.12 ? 0 : Math.sign(cos);
+  const sign = !it ? "no queue" : it.settling ? `settles ${it.settling} of ${it.queued}` : `short ${shown(it.short)}`;
+  const at = { x: x + 20 * side, "text-anchor": ["end", "middle", "start"][side + 1] };
+  const top = side ? y + sin * 24 - 2 : sin > 0 ? y + 28 : y - 42;
+  return [shape(kind !== "first", x, y, it ? 9 : 5, `node ${kind}`),
+    part("text", { ...at, y: top, class: "code" }, code),
+    part("text", { ...at, y: top + 15, class: `sign ${kind}` }, sign)];
 }
 
-/** Draws the queues as banks round a circle, with an arrow for each pair. */
-function circle(svg, found, by, pairs) {
-  const places = new Map(), arrows = [], labels = [], nodes = [], defs = part("defs", {});
-  // (half a place is left between two groups)
-  const slots = found.flat().length + found.length / 2;
-  let slot = 0;
-  for (const codes of found) {
-    for (const code of codes) {
-      const angle = (2 * Math.PI * slot++) / slots - Math.PI / 2, [cos, sin] = [Math.cos(angle), Math.sin(angle)];
-      places.set(code, { x: WIDTH / 2 + cos * (WIDTH / 2 - 145), y: HEIGHT / 2 + sin * (HEIGHT / 2 - 50), cos, sin });
-    }
-    slot += 0.5;
-  }
-  for (const kind of ["settles", "first", "later"]) {
-    const head = part("marker", { id: `head-${kind}`, class: `head ${kind}`, viewBox: "0 0 10 10", refX: 8, refY: 5,
-      markerWidth: 10, markerHeight: 10, markerUnits: "userSpaceOnUse", orient: "auto" });
-    head.append(part("path", { d: "M0 0L10 5L0 10z" }));
-    defs.append(head);
-  }
-  for (const { from, to, kind, value, told } of pairs) {
-    const { path, x, y, far } = arrow(places.get(from), places.get(to), kind, kind === "settles" ? 4 : 1.5, told);
-    arrows[kind === "settles" ? "push" : "unshift"](path);
-    const amount = about.format(Number(value) / 100);
-    if (kind !== "later" || far > 150) labels.push(part("text", { x, y, class: "amount" }, amount));
-  }
-  for (const [code, { x, y, cos, sin }] of places) {
-    const it = by.get(code), kind = !it ? "none" : it.settling ? "settles" : "first";
-    const side = Math.abs(cos) < 0.12 ? "middle" : cos > 0 ? "start" : "end";
-    const at = { x: x + (side === "middle" ? 0 : cos > 0 ? 20 : -20), "text-anchor": side };
-    const top = side !== "middle" ? y + sin * 12 - 2 : sin > 0 ? y + 28 : y - 34;
-    const sign = !it ? "no queue" : it.settling ? `settles ${it.settling} of ${it.queued}` : `short ${shown(it.short)}`;
-    // (shapes tell the kinds apart, not colours alone)
-    const node = kind === "first" ? part("rect", { x: x - 8, y: y - 8, width: 16, height: 16, class: `node ${kind}` })
-      : part("circle", { cx: x, cy: y, r: it ? 9 : 5, class: `node ${kind}` });
-    nodes.push(node, part("text", { ...at, y: top, class: "code" }, code),
-      part("text", { ...at, y: top + 15, class: `sign ${kind}` }, sign));
-  }
-  svg.setAttribute("viewBox", `0 0 ${WIDTH} ${HEIGHT}`);
-  svg.replaceChildren(defs, ...arrows, ...labels, ...nodes);
+function circle(found, queues, pairs) {
+  const by = new Map(queues.map((it) => [it.code, it])), places = new Map();
+  // (a place is left free behind each group)
+  found.flatMap((codes) => [...codes, ""]).forEach((code, i, { length }) => {
+    const angle = (2 * Math.PI * i) / length - Math.PI / 2, [cos, sin] = [Math.cos(angle), Math.sin(angle)];
+    places.set(code, { x: WIDTH / 2 + cos * (WIDTH / 2 - 145), y: HEIGHT / 2 + sin * (HEIGHT / 2 - 58), cos, sin });
+  });
+  const drawn = pairs.map((it) => arrow(places.get(it.from), places.get(it.to), it));
+  const nodes = found.flat().flatMap((code) => node(code, places.get(code), by.get(code)));
+  return [...drawn.map(([path]) => path), ...drawn.map(([, amount]) => amount), ...nodes];
 }
 
-/** Draws the queues into an svg element, and returns how many banks its matrix has: 0 if it is none. A pair of banks is
- * of the kind "settles" if the payer's first order is to the other and would settle by a resolution now, "first" if it
- * is to the other and would stay, and else "later". (If the whole queue would settle, so would each pair of it.) */
+/** Returns a row for each bank that would pay, and a column for each that would be paid. */
+function matrix(codes, size, pairs) {
+  const most = pairs.reduce((it, { value }) => (value > it ? value : it), 1n);
+  const at = new Map(codes.map((code, i) => [code, EDGE + i * STEP + STEP / 2]));
+  const lines = [...at].flatMap(([code, place]) => [
+    part("path", { class: "grid", d: `M${EDGE} ${place}H${size}M${place} ${EDGE}V${size}` }),
+    part("text", { x: EDGE - 6, y: place + 5, class: "code", "text-anchor": "end" }, code),
+    part("text", { x: 6, y: 5, class: "code", transform: `translate(${place} ${EDGE})rotate(-90)` }, code)]);
+  return [...lines, ...pairs.map(({ from, to, kind, value, told }) => {
+    const half = 2 + (STEP / 2 - 3) * Math.sqrt(Number(value) / Number(most)), [x, y] = [at.get(to), at.get(from)];
+    return shape(kind === "later", x, y, half, `cell ${kind}`, part("title", {}, told));
+  })];
+}
+
+/** Draws the queues, and returns what picture it is. A pair of banks "settles" if the payer's first order is to the
+ * other, or all its orders would settle, and a resolution would settle the first. It is "first" if the first stays. */
 export function draw(svg, queues) {
-  const found = groups(queues), by = new Map(queues.map((it) => [it.code, it]));
+  const found = groups(queues), many = found.flat().length, size = EDGE + many * STEP + 10;
   const pairs = queues.flatMap(({ code: from, first, queued, receivers, settling }) => receivers.map((it) => ({
     from, to: it.to, value: it.queued_value, told: `${from} to ${it.to}: ${shown(it.queued_value)} in ${it.queued}`,
     kind: first.to !== it.to && settling < queued ? "later" : settling ? "settles" : "first",
   })));
-  const many = by.size > 0 && (found.flat().length > BANKS || pairs.length > ARROWS);
-  if (many) matrix(svg, found.flat(), pairs);
-  else circle(svg, found, by, pairs);
-  return many ? found.flat().length : 0;
+  const isMatrix = many > BANKS || pairs.length > ARROWS;
+  svg.setAttribute("viewBox", isMatrix ? `0 0 ${size} ${size}` : `0 0 ${WIDTH} ${HEIGHT}`);
+  const drawn = isMatrix ? matrix(found.flat(), size, pairs) : circle(found, queues, pairs);
+  svg.lastElementChild.replaceChildren(...drawn);
+  return !many ? "empty" : !isMatrix ? "circle" : many > 20 ? "matrix wide" : "matrix";
 }

@@ -1,147 +1,103 @@
-// What the operator looks up: reports, orders, marks and statements of a date, queues and held orders of a bank, and
-// one order, each as a table that can be saved.
+// What the operator looks up, each as a table that can be saved.
 import { ask } from "./asking.js";
-import { $, button, fill, items, made } from "./elements.js";
+import { $, button, explained, fill, items, made, on } from "./elements.js";
+import { offerFields } from "./fields.js";
 import { readings } from "./polling.js";
 import { ROUTES } from "./routes.js";
-import { count, csvOf, read, reportOf, shown, statementOf, tableOf, tableOfRecords } from "./values.js";
+import { count, csvOf, shown } from "./values.js";
 
-/** The most rows that are shown. What is saved has all. */
-const MOST = 500;
-const OF_ORDERS = (text) => tableOf(text, ROUTES.orders[3]), OF_MARKS = (text) => tableOf(text, ROUTES.marks[3]);
-const listOf = (name) => (text) => tableOfRecords(read(text, ROUTES[name][3]).orders, ROUTES[name][3].slice(7));
-const OF_ORDER = (text) =>
-  tableOfRecords([read(text, ROUTES.order[3])], "number reference to amount date due state mark");
-/** By name: how the title is made of what is asked for, and the table of the desk's text. */
+const MOST = 500; // rows that are shown: what is saved has all
+/** By name: what it is called, and its title, which has the fields that are asked for. */
 const KINDS = {
-  report: [({ date }) => `Report of ${date}`, reportOf],
-  orders: [({ date }) => `Orders of ${date}`, OF_ORDERS],
-  marks: [({ date }) => `Marks of ${date}`, OF_MARKS],
-  statement: [({ code, date }) => `Statement of ${code}, ${date}`, statementOf],
-  queue: [({ code }) => `Queue of ${code}`, listOf("queue")],
-  held: [({ code }) => `Orders of ${code} that are held, by due date`, listOf("held")],
-  order: [({ code, reference }) => `Order ${reference} of ${code}`, OF_ORDER],
+  report: ["report of a date", "Report of {date}"],
+  orders: ["orders of a date", "Orders of {date}: {state}"],
+  marks: ["marks of a date", "Marks of {date}"],
+  statement: ["statement of a bank", "Statement of {code}, {date}"],
+  queue: ["queue of a bank", "Queue of {code}"],
+  held: ["held orders of a bank", "Orders of {code} that are held, by due date"],
+  order: ["one order", "Order {reference} of {code}"],
 };
-
+const PLACE = /\{(\w+)\}/g;
 let found = null; // what is shown: {name, values, title, heads, rows}
-let begin = () => {}, explained = () => [];
+let offered = ""; // the business date and the number of banks by which the fields were offered
+const typed = () => Object.fromEntries(new FormData($("look-form")));
 
-/** Has the form look things up. A withdrawal of an order is begun by `begins`; refusals are told by `explains`. */
-export function enable(begins, explains) {
-  [begin, explained] = [begins, explains];
-  $("look-what").addEventListener("change", offerFields);
-  $("look-form").addEventListener("submit", (event) => {
-    event.preventDefault();
-    look($("look-what").value, Object.fromEntries(new FormData($("look-form"))));
-  });
-  $("look-states").addEventListener("change", showRows);
-  $("look-save").addEventListener("click", () => saved(`${found.title.replace(/\W+/g, "-")}.csv`, csvOf(chosen())));
-  offerFields();
+export function enable() {
+  $("look-what").append(...Object.entries(KINDS).map(([value, [text]]) => made("option", { value }, text)));
+  on("look-what", "change", () => offer(typed()));
+  on("look-form", "submit", () => look($("look-what").value, typed()));
+  on("look-save", "click", () => saved(`${found.title.replace(/\W+/g, "-")}.csv`, csvOf(found)));
 }
 
-/** Shows the fields that what is to be looked up asks for. */
-function offerFields() {
-  for (const it of $("look-form").querySelectorAll("[data-of]")) {
-    it.hidden = !ROUTES[$("look-what").value][1].includes(`{${it.dataset.of}}`);
-    it.querySelector("input, select").disabled = it.hidden;
-  }
+function offer(values) {
+  const names = [...KINDS[$("look-what").value][1].matchAll(PLACE)].map((it) => it[1]);
+  offerFields($("look-fields"), names, { date: readings.accounts?.data.date, ...values });
 }
 
-/** Looks something up, and shows it: of orders those of one state or one mark alone, where that is given. */
-async function look(name, values, only = "") {
-  const got = await ask(name, values), [titleOf, tableMade] = KINDS[name];
-  if (got?.status === 200) {
-    const text = ["report", "statement"].includes(name) ? got.text : "";
-    show(titleOf(values), { name, values, text, ...tableMade(got.text) }, only);
-    $("look-head").focus();
-  } else if (got?.refused) $("look-answer").replaceChildren(...explained(got.refused));
-  else if (got) $("look-answer").replaceChildren(made("p", got.missing));
+/** Offers the fields anew where the business date is another, or a bank is, unless the operator is typing. */
+export function renew({ date, accounts } = { accounts: [] }) {
+  const now = `${date} ${accounts.length}`;
+  if (now === offered || $("look-fields").contains(document.activeElement)) return;
+  offered = now;
+  offer({ ...typed(), date });
 }
 
-/** Shows a table under a title, with the text of the desk where there is one. */
-export function show(title, table, only = "") {
-  found = { title, ...table };
-  $("look-answer").replaceChildren();
+/** Looks something up, and shows it: of orders those of a state or a mark alone, where one is given. */
+export async function look(name, values) {
+  const { data, text, isLocked, ...why } = await ask(name, values), reads = ROUTES[name][3];
+  if (isLocked) return;
+  $("look-answer").replaceChildren(...(data ? [] : explained(why)));
+  if (!data) return;
+  const heads = data.heads ?? reads.split(" ").filter((it) => it !== "orders");
+  const all = data.rows ?? (data.orders ?? [data]).map((it) => heads.map((head) => it[head] ?? ""));
+  const [state, mark] = ["state", "mark"].map((it) => heads.indexOf(it)), wanted = values.state ?? "all";
+  const rows = all.filter((row) => wanted === "all" || wanted === row[state] || wanted === `mark ${row[mark]}`);
+  const title = KINDS[name][1].replace(PLACE, (_, key) => values[key]);
+  show(title, { name, values, heads, rows, sums: data.sums, text: reads ? "" : text });
+  $("look-head").focus();
+}
+
+/** Shows a table under a title, with its sums, and the text of the desk where there is one. */
+export function show(title, { text = "", sums = [], ...table }) {
+  const { heads, rows } = found = { title, ...table }, some = rows.slice(0, MOST);
+  const cell = (it) => [typeof it === "bigint" ? shown(it) : String(it), typeof it === "string" ? "one" : "n"];
+  const more = some.some((row) => buttons(row).length) ? (key) => buttons(some[Number(key)]) : null;
   $("look-head").textContent = title;
-  $("look-age").textContent = `As of ${new Date().toLocaleTimeString("en-GB")}. It is read once.`;
-  $("look-text").textContent = found.text ?? "";
-  $("look-whole").hidden = !found.text;
-  items($("look-sums"), [...(found.sums ?? []).map(([name, cents]) => [`${name} ${shown(cents)}`]),
-    ...Object.entries(found.states ?? {}).map(([name, it]) => [`${name} ${it.count}, ${shown(it.value)}`]),
-    ...("marks" in found ? [[`marks ${found.marks}`]] : [])]);
-  offerStates(only);
+  $("look-age").textContent = `As of ${new Date().toLocaleTimeString("en-GB")}, and not read again.`;
+  $("look-text").textContent = text;
+  $("look-whole").hidden = !text;
+  items($("look-sums"), sums.map((it) => [it.join(" ")]));
   $("look-found").hidden = false;
-  showRows();
-}
-
-const at = (head) => found.heads.indexOf(head);
-
-/** Offers the states of the orders that were found, and what is wanted alone. */
-function offerStates(only) {
-  const states = found.name === "orders" ? found.rows.map((row) => row[at("state")]) : [];
-  const option = (text, value) => made("option", text, "", { value });
-  $("look-states").replaceChildren(option(`all ${found.rows.length}`, ""), ...[...new Set(states)].sort().map((it) =>
-    option(`${it} ${states.filter((one) => one === it).length}`, it)));
-  if (/\d/.test(only)) $("look-states").append(option(`settled under mark ${only}`, only));
-  $("look-states").value = only;
-  $("look-states").parentElement.hidden = found.name !== "orders";
-}
-
-/** Returns the table, of orders those of the state or the mark that is chosen. */
-function chosen() {
-  const wanted = $("look-states").value;
-  const isWanted = (row) => !wanted || [row[at("state")], String(row[at("mark")])].includes(wanted);
-  return { heads: found.heads, rows: found.rows.filter(isWanted) };
-}
-
-function showRows() {
-  const { heads, rows } = chosen(), kindOf = (it) => (typeof it === "string" ? "one" : "n");
-  const cells = rows.slice(0, MOST).map((row, i) => [String(i), ...row.map((it) =>
-    [typeof it === "bigint" ? shown(it) : String(it), kindOf(it)])]);
-  const acts = rows.slice(0, MOST).some((row) => buttons(row).length);
   $("look-table").replaceChildren();
-  fill($("look-table"), heads.map((it, i) => [it, kindOf(rows[0]?.[i] ?? "")]), cells,
-    { more: acts ? (key) => buttons(rows[Number(key)]) : null });
+  fill($("look-table"), heads, some.map((row, i) => [String(i), ...row.map(cell)]), { more });
   $("look-many").textContent = !rows.length ? "There is none."
     : rows.length > MOST ? `The first ${MOST} of ${rows.length} are shown. What is saved has all.` : "";
 }
 
 /** Returns the buttons of a row: an order that waits can be withdrawn, and the orders of a mark can be shown. */
 function buttons(row) {
-  const { name, values } = found, of = (head) => row[at(head)], number = String(of("number"));
-  if (name === "marks") return [button("Orders", () => look("orders", values, number), `Orders of mark ${number}`)];
-  const waits = name === "queue" || name === "held" || ["queued", "held"].includes(of("state"));
-  const order = waits && { code: of("sender") ?? values.code, reference: of("reference") };
-  const label = `Withdraw… ${order.reference} of ${order.code}`;
-  return waits ? [button("Withdraw…", () => begin("withdraw", order), label)] : [];
-}
-
-/** Gives a text as a file. */
-export function saved(name, text) {
-  const href = URL.createObjectURL(new Blob([text], { type: "text/plain" }));
-  made("a", "", "", { download: name, href }).click();
-  URL.revokeObjectURL(href);
-}
-
-/** Forgets what was found. */
-export function forget() {
-  $("look-form").reset();
-  $("look-found").hidden = true;
-  for (const id of ["look-table", "look-text", "look-answer", "look-sums", "look-age"]) $(id).replaceChildren();
-  $("look-head").textContent = "Look up";
-  offerFields();
-}
-
-/** Proposes the business date, unless the operator types another. */
-export function propose(date) {
-  const field = $("look-form").elements.date;
-  if (date && document.activeElement !== field && date !== field.dataset.day) field.value = field.dataset.day = date;
+  const { name, values } = found, of = (head) => row[found.heads.indexOf(head)], state = `mark ${of("number")}`;
+  if (name === "marks") return [button("Orders", { look: "orders", ...values, state }, `Orders of ${state}`)];
+  if (name !== "queue" && name !== "held" && !["queued", "held"].includes(of("state"))) return [];
+  const order = { code: of("sender") ?? values.code, reference: of("reference") };
+  return [button("Withdraw…", { command: "withdraw", ...order }, `Withdraw… ${order.reference} of ${order.code}`)];
 }
 
 /** Returns buttons for what can be looked up after a command: what a resolution settled, or what a close rejected. */
-export function afterwards({ mark, auto, rejected }) {
-  const { date } = readings.accounts.data, under = mark ?? auto?.mark;
-  const orders = (text, only) => button(text, () => look("orders", { date }, only));
-  return [...(under ? [orders("Show what it settled", String(under))] : []),
+export function afterwards({ mark = 0, auto, rejected = 0 }) {
+  const { date } = readings.accounts.data, under = mark || auto?.mark;
+  const orders = (text, state) => button(text, { look: "orders", date, state });
+  return [...(under ? [orders("Show what it settled", `mark ${under}`)] : []),
     ...(rejected ? [orders(`Show ${count(rejected, "rejected order")}`, "rejected")] : [])];
+}
+
+export function saved(name, text) {
+  const href = URL.createObjectURL(new Blob([text], { type: "text/plain" }));
+  made("a", { download: name, href }).click();
+  URL.revokeObjectURL(href);
+}
+
+export function forget() {
+  [found, offered] = [null, ""];
+  $("look-found").hidden = true;
 }

@@ -2,48 +2,43 @@
 import { $, button, fill, items, made } from "./elements.js";
 import { draw } from "./graph.js";
 import { readings } from "./polling.js";
-import { count, shown, sum, total, weekday } from "./values.js";
+import { centsOf, count, shown, sum, total, dayOf } from "./values.js";
 import { payers, rings } from "./waits.js";
 
-const PHASES = { CLOSED: "closed", OPEN: "open", CUTOFF: "cut off" };
-const BANKS = [["Bank"], ["Name", "name"], ["Balance", "n"], ["Credit limit", "n"], ["Headroom", "n"],
-  ["Queued orders", "n"], ["Lacks for the close", "n"]];
-const QUEUES = [["Bank"], ["First order"], ["To"], ["Amount", "n"], ["Short by", "n"], ["By a resolution now"],
-  ["All it would pay"], ["Who would pay it"]];
+const PHASES = { CLOSED: "Closed", OPEN: "Open", CUTOFF: "Cut off" };
+const SORTS = { code: () => 0n, "least headroom": ({ headroom }) => -headroom, "most queued": (it) => it.queued_value,
+  "most lacking": ({ lacking }) => lacking };
+const BANKS = ["Bank", "Name", "Balance", "Credit limit", "Headroom", "Queued orders", "Lacks for the close"];
+const QUEUES = ["Bank", "First order", "To", "Amount", "Short by", "By a resolution now", "All it would pay",
+  "Who would pay it"];
+$("sort").append(...Object.keys(SORTS).map((it) => made("option", {}, it)));
 
-/** Returns an account's headroom: what it has above its floor, which is 0 while the desk is closed. */
-const headroom = ({ balance, credit }, phase) => balance + (phase === "CLOSED" ? 0n : credit);
-
-/** Returns how many orders a resolution would settle now, as far as it is known. */
 export const settlingNow = () => readings.queues && total(readings.queues.data.queues, "settling");
 
 /** Returns what the close asks for: of each thing its sign and its class, as far as the readings tell. */
 export function closeAsks() {
   const { accounts, phase } = readings.accounts.data, settling = settlingNow();
-  const lacking = accounts.filter((it) => it.lacking > 0n), codes = lacking.map((it) => it.code);
+  const lacking = accounts.filter((it) => it.lacking > 0n);
   const sign = (good, yes, no) => [`${good ? "✓" : "✗"} ${good ? yes : no}`, good ? "good" : "bad"];
   return phase === "CLOSED" ? [] : [
     sign(phase === "CUTOFF", "The day is cut off", "The day is not cut off"),
     sign(settling === 0, "Nothing that is queued could settle", settling === undefined
       ? "Whether queued orders could settle is not known" : `${count(settling, "queued order")} could settle: resolve`),
-    sign(!codes.length, "No balance is below 0",
-      `${count(codes.length, "bank lacks", "banks lack")} ${shown(sum(lacking, "lacking"))}: ${codes.join(", ")}`)];
+    sign(!lacking.length, "No balance is below 0", `${count(lacking.length, "bank lacks", "banks lack")} ${
+      shown(sum(lacking, "lacking"))}: ${lacking.map((it) => it.code).join(", ")}`)];
 }
 
-/** Shows the day's orders, what the close asks for, and which command comes next. Each can be given at any time: the
- * desk judges it. */
+/** Shows the day's orders, what the close asks for, and which command comes next. Each can be given at any time. */
 function showDay() {
   if (!readings.accounts) return;
-  const { accounts, date, phase } = readings.accounts.data, report = readings.report?.data;
-  if (report && report.date === date) {
-    // (the accounts are read more often than the report)
-    const queued = { count: total(accounts, "queued"), value: sum(accounts, "queued_value") };
-    items($("figures"), [...Object.entries({ ...report.states, queued }).map(([name, it]) =>
-      [`${name} ${it.count}\n${shown(it.value)}`]), [`marks ${report.marks}`]]);
-  }
-  const asked = closeAsks(), lacks = accounts.some((it) => it.lacking > 0n);
+  const { accounts, date, phase } = readings.accounts.data, report = readings.report?.data, asked = closeAsks();
+  // (the accounts are read more often than the report)
+  const queued = `queued ${total(accounts, "queued")}\n${shown(sum(accounts, "queued_value"))}`;
+  items($("figures"), !report || report.date !== date ? [] : report.sums.map(([name, many, value]) =>
+    [name === "queued" ? queued : `${name} ${many}\n${value ? shown(centsOf(value)) : ""}`]));
   items($("ready"), asked);
-  const next = phase === "CLOSED" ? "open" : settlingNow() ? "resolve" : phase === "CUTOFF" && !lacks && "close";
+  const next = phase === "CLOSED" ? "open" : settlingNow() ? "resolve"
+    : asked.every(([, kind]) => kind === "good") && "close";
   for (const it of $("commands").children) it.classList.toggle("main", it.dataset.command === next);
 }
 
@@ -54,87 +49,65 @@ function showStatus({ automatic, phase, ...it }) {
     [`desk ${it.version}\ntables ${it.tables}, ${count(it.participants, "participant")}`]]);
 }
 
-function showPhase(phase, date) {
-  $("date").textContent = date ? `${weekday(date)} ${date}` : "No day was opened yet";
+function showAccounts({ date, phase }) {
+  $("date").textContent = date ? dayOf(date) : "No day was opened yet";
   $("phase").textContent = PHASES[phase];
   if (phase === "CLOSED") $("kind").textContent = "";
   document.body.dataset.phase = phase;
-  for (const it of $("steps").children) it.ariaCurrent = it.id === `step-${phase}` ? "step" : null;
+  $("steps").replaceChildren(...Object.keys(PHASES).map((it) =>
+    made("li", it === phase ? { "aria-current": "step" } : {}, PHASES[it])));
+  showBanks();
+  showDay();
 }
 
-/** Shows the accounts in the order that was chosen. `begin` begins a command of a bank. */
-export function showBanks({ accounts, phase }, begin) {
-  const left = (it) => headroom(it, phase), of = (name) => shown(sum(accounts, name));
-  const by = { code: () => 0n, headroom: left, queued_value: (it) => -it.queued_value, lacking: (it) => -it.lacking };
-  const place = by[$("sort").value];
-  const rows = [...accounts].sort((a, b) => (place(a) < place(b) ? -1 : Number(place(a) > place(b)))).map((it) => [
-    it.code, [it.code], [it.name, "name"], [shown(it.balance), it.balance < 0n ? "n below" : "n"],
-    [shown(it.credit), "n"], [shown(left(it)), left(it) ? "n" : "n below"],
-    [it.queued ? `${shown(it.queued_value)} in ${it.queued}` : "none", it.queued ? "n waits" : "n none"],
-    [shown(it.lacking), it.lacking ? "n below strong" : "n none"]]);
-  const sums = [`All ${accounts.length}`, "", of("balance"), of("credit"), shown(accounts.reduce((it, row) =>
-    it + left(row), 0n)), `${of("queued_value")} in ${total(accounts, "queued")}`, of("lacking"), ""];
-  const more = (code) => [["post", "Post…"], ["credit", "Limit…"]].map(([name, text]) =>
-    button(text, () => begin(name, { code }), `${text} ${code}`));
-  fill($("banks-table"), BANKS, rows, { more, sums: [["all", ...sums.map((it, i) => [it, BANKS[i]?.[1]])]] });
+/** Shows the accounts as they are sorted. Headroom is what is above the floor, which is 0 while the desk is closed. */
+export function showBanks() {
+  const { accounts, phase } = readings.accounts.data, by = SORTS[$("sort").value];
+  const banks = accounts.map((it) => ({ ...it, headroom: it.balance + (phase === "CLOSED" ? 0n : it.credit) }));
+  const cells = (it) => [[it.code], [it.name, "name"], [shown(it.balance), it.balance < 0n ? "n below" : "n"],
+    [shown(it.credit), "n"], [shown(it.headroom), it.headroom ? "n" : "n below"],
+    it.queued ? [`${shown(it.queued_value)} in ${it.queued}`, "n waits"] : ["none", "n none"],
+    [shown(it.lacking), it.lacking ? "n below strong" : "n none"]];
+  const rows = banks.sort((a, b) => Number(by(b) - by(a))).map((it) => [it.code, ...cells(it)]);
+  const sums = ["balance", "credit", "headroom", "queued_value", "lacking"].map((name) => [name, sum(banks, name)]);
+  const all = { code: `All ${banks.length}`, name: "", queued: total(banks, "queued"), ...Object.fromEntries(sums) };
+  const more = (code) => [button("Post…", { command: "post", code }, `Post… ${code}`),
+    button("Limit…", { command: "credit", code }, `Limit… ${code}`)];
+  fill($("banks-table"), BANKS, rows, { more, sums: [["all", ...cells(all), [""]]] });
 }
 
-/** Has each choice of a bank offer the banks that there are. They do not change while a server runs. */
-function offerBanks(accounts) {
-  for (const it of document.querySelectorAll("select[name=code]")) {
-    if (it.length !== accounts.length + 1) {
-      it.replaceChildren(made("option", "choose…", "", { value: "" }),
-        ...accounts.map(({ code, name }) => made("option", `${code} ${name}`, "", { value: code })));
-    }
-  }
-}
-
-/** Lists pairs of a bank and what is queued: the greatest eight, or seven and what is left. A cell is never long. */
+/** Lists pairs of a bank and what is queued: the greatest eight, or seven and what is left. */
 function listed(pairs, name) {
-  const most = [...pairs].sort((a, b) => (a.queued_value < b.queued_value ? 1 : -1));
-  const rest = most.length > 8 ? most.splice(7) : [];
-  const others = [total(rest, "queued"), sum(rest, "queued_value")];
-  if (rest.length) most.push({ [name]: `${rest.length} others`, queued: others[0], queued_value: others[1] });
-  return most.map((it) =>
-    `${it[name]} ${shown(it.queued_value)} in ${it.queued}`.replaceAll(" ", "\u00a0")).join("; ");
+  const said = (who, value, many) => `${who} ${shown(value)} in ${many}`.replaceAll(" ", "\u00a0");
+  const sorted = [...pairs].sort((a, b) => Number(b.queued_value - a.queued_value));
+  const rest = sorted.splice(sorted.length > 8 ? 7 : 8);
+  const most = sorted.map((it) => said(it[name], it.queued_value, it.queued));
+  if (rest.length) most.push(said(`${rest.length} others`, sum(rest, "queued_value"), total(rest, "queued")));
+  return most.join("; ");
 }
 
 function showQueues({ queues }) {
   const by = payers(queues), found = rings(queues), inRings = new Set(found.flat());
+  const stays = (code) => (!by.has(code) ? "stays: no queued order would pay it"
+    : inRings.has(code) ? "stays, though it is in a ring" : "stays");
   fill($("queues-table"), QUEUES, queues.map(({ code, first, receivers, ...it }) => [
     code, [code], [`${first.number} ${first.reference}`, "one"], [first.to], [shown(first.amount), "n"],
     it.short ? [shown(it.short), "n below"] : ["has cover", "n"],
     it.settling ? [`${it.settling} of ${it.queued} would settle, ${shown(it.settling_value)}`, "good"]
-      : [!by.has(code) ? "stays: no queued order would pay it" : inRings.has(code) ? "stays, though it is in a ring"
-        : "stays", "bad"], [listed(receivers, "to")], [listed(by.get(code) ?? [], "from") || "nobody"]]));
+      : [stays(code), "bad"], [listed(receivers, "to")], [listed(by.get(code) ?? [], "from") || "nobody"]]));
   $("queues-none").textContent = queues.length ? "" : "No order is queued.";
   $("waits-said").textContent = waitsSaid(queues, found);
-  const many = draw($("graph"), queues);
-  $("picture").classList.toggle("matrix", many > 0);
-  $("picture").classList.toggle("wide", many > 20);
-  $("waits").classList.toggle("empty", !queues.length);
+  $("picture").className = `pair ${draw($("graph"), queues)}`;
   showDay();
 }
 
 function waitsSaid(queues, found) {
   if (!queues.length) return "Nobody waits: no order is queued.";
   const named = found.map((it) => `${it.slice(0, 8).join(", ")}${it.length > 8 ? " and more" : ""}`).join("; ");
+  const ring = found.length ? `In ${found.length === 1 ? "a ring" : "rings"}: ${named}.` : "There is no ring.";
   const settling = total(queues, "settling"), value = shown(sum(queues, "settling_value"));
-  return `${count(queues.length, "bank has", "banks have")} queued orders. ${
-    found.length ? `In ${found.length === 1 ? "a ring" : "rings"}: ${named}.` : "There is no ring."} ${
-    settling ? `A resolution would settle ${count(settling, "order")} of ${value} now.`
-      : "A resolution would settle nothing now: money has to come in."}`;
+  const now = settling ? `${count(settling, "order")} of ${value} now.` : "nothing now: money has to come in.";
+  return `${count(queues.length, "bank has", "banks have")} queued orders. ${ring} A resolution would settle ${now}`;
 }
 
-/** Returns the call that shows each reading. */
-export const shows = (begin) => ({
-  accounts(data) {
-    showPhase(data.phase, data.date);
-    offerBanks(data.accounts);
-    showBanks(data, begin);
-    showDay();
-  },
-  queues: showQueues,
-  status: showStatus,
-  report: showDay,
-});
+export const shows = { accounts: showAccounts, queues: showQueues, status: showStatus, report: showDay };

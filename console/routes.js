@@ -1,30 +1,24 @@
-// The requests that this page makes, and what it reads of each reply: a key that does not stand here is left out when
-// a reply is read. `bin/checks console` compares all this with docs/openapi.yaml.
-
-/** The keys whose values are cents. A balance can be greater than 2^53, so cents are BigInts all over the console. */
-export const CENTS = "amount balance credit headroom held_value lacking queued_value settling_value short sum value";
+// The requests of this page, and what it reads of each reply. A check compares all of it with docs/openapi.yaml.
+/** The keys whose values are cents: BigInts all over the console, since a balance can be greater than 2^53. */
+export const CENTS = "amount balance credit held_value lacking queued_value settling_value short sum value";
 /** The keys whose values are other numbers. (`code` is a number in a refusal, and a text in an account.) */
 export const NUMBERS = "code count held mark next_mark next_order next_posting number participants place queued"
   + " rejected row settling tables";
-
-/** What a refusal says. */
 export const REFUSAL = "code count first name row";
-
 /** By name: the method, the path, the keys that are sent, and those that are read; of CSV its columns. */
 export const ROUTES = {
-  status: ["GET", "/desk/status", "", "automatic date held held_value next_mark next_order next_posting participants"
-    + " phase queued queued_value sum tables version"],
-  accounts: ["GET", "/desk/accounts", "",
-    "accounts balance code credit date lacking name phase queued queued_value"],
-  queues: ["GET", "/desk/queues", "", "automatic phase queues code first amount number reference to headroom queued"
-    + " queued_value receivers settling settling_value short"],
+  status: ["GET", "/desk/status", "", "automatic held held_value next_mark next_order next_posting participants phase"
+    + " sum tables version"],
+  accounts: ["GET", "/desk/accounts", "", "accounts balance code credit date lacking name phase queued queued_value"],
+  queues: ["GET", "/desk/queues", "", "queues code first amount number reference to queued queued_value receivers"
+    + " settling settling_value short"],
   report: ["GET", "/desk/report/{date}", "", ""],
   statement: ["GET", "/desk/statements/{code}/{date}", "", ""],
   orders: ["GET", "/desk/orders/{date}", "", "number sender reference receiver amount due state mark"],
   marks: ["GET", "/desk/marks/{date}", "", "number count value"],
   queue: ["GET", "/desk/queue/{code}", "", "orders place number reference to amount"],
   held: ["GET", "/desk/held/{code}", "", "orders due number reference to amount"],
-  order: ["GET", "/desk/orders/{code}/{reference}", "", "amount date due mark number reference state to"],
+  order: ["GET", "/desk/orders/{code}/{reference}", "", "number reference to amount date due state mark"],
   open: ["POST", "/desk/open", "automatic date", "answer auto count mark value"],
   resolve: ["POST", "/desk/resolve", "", "answer count mark value"],
   cutoff: ["POST", "/desk/cutoff", "date", "answer"],
@@ -35,6 +29,5 @@ export const ROUTES = {
   batch: ["POST", "/desk/batches/{code}", "", "reference result number detail"],
 };
 
-/** Returns the path of a request, with these values in its places. */
 export const pathOf = (name, values) =>
   ROUTES[name][1].replace(/\{(\w+)\}/g, (_, key) => encodeURIComponent(values[key]));

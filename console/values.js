@@ -1,18 +1,24 @@
-// What the desk sends, read exactly, and how it is shown. This module knows no page: it has functions of texts and
-// values alone. Cents are BigInts.
-import { CENTS, NUMBERS } from "./routes.js";
+// What the desk sends, read exactly, and how it is shown. This module knows no page. Cents are BigInts.
+import { CENTS, NUMBERS, ROUTES } from "./routes.js";
 
 const [ofCents, ofNumbers] = [CENTS, NUMBERS].map((it) => new Set(it.split(" ")));
-const DAYS = ["Sunday", "Monday", "Tuesday", "Wednesday", "Thursday", "Friday", "Saturday"];
+const HEADS = { report: "bank posted sent received", statement: "kind number reference other amount mark" };
 
-/** Returns the value of a key, as it is read from its text. */
+/** Returns what a call returns, or nothing where it throws, since a text is not of its form. */
+export function orNothing(reads) {
+  try {
+    return reads();
+  } catch {
+    return null;
+  }
+}
+
 function valueOf(key, text) {
-  if (ofCents.has(key)) return BigInt(text);
+  if (ofCents.has(key)) return BigInt(/^-?\d+$/.exec(text)[0]);
   return ofNumbers.has(key) && /^\d+$/.test(text) ? Number(text) : text;
 }
 
-/** Reads a JSON body of the desk, of which it takes these keys. Its numbers are whole, and no text of it has an
- * escape. */
+/** Reads a JSON body of the desk, of which it takes these keys. Its numbers are whole, and no text has an escape. */
 export function read(text, keys) {
   const known = new Set(keys.split(" "));
   const quoted = text.replace(/"[^"]*"|-?\d+/g, (it) => (it.startsWith('"') ? it : `"${it}"`));
@@ -22,10 +28,6 @@ export function read(text, keys) {
   });
 }
 
-/** Writes the JSON body of a command. */
-export const written = (fields) => `{${Object.entries(fields).map(([key, value]) =>
-  `"${key}":${typeof value === "bigint" ? value : JSON.stringify(value)}`).join(",")}}`;
-
 /** Shows cents with two decimals, thousands apart: 1 234 567.89. */
 export function shown(cents) {
   const digits = String(cents < 0n ? -cents : cents).padStart(3, "0");
@@ -33,61 +35,41 @@ export function shown(cents) {
   return `${cents < 0n ? "\u2212" : ""}${whole}.${digits.slice(-2)}`;
 }
 
-/** Reads an amount as the operator types it. Two decimals are asked for, so that nobody types cents for units. */
-export function centsOf(text) {
-  const typed = text.replace(/[\s\u202f]/g, "");
-  return /^\d{1,14}\.\d\d$/.test(typed) ? BigInt(typed.replace(".", "")) : null;
-}
-
-// Tables: {heads, rows}, a row being a list of values, one below each head.
-
-/** Reads CSV, of which no field has quotes, with these columns and no others. */
-export function tableOf(text, columns) {
-  const [head, ...lines] = text.replace(/\n$/, "").split("\n"), heads = columns.split(" ");
-  if (head !== heads.join()) throw new Error(`other columns than ${heads}`);
-  return { heads, rows: lines.map((line) => line.split(",").map((it, i) => valueOf(heads[i], it))) };
-}
-
-/** Makes a table of records, with a column for each of these keys. */
-export function tableOfRecords(records, columns) {
-  const heads = columns.split(" ");
-  return { heads, rows: records.map((it) => heads.map((head) => it[head] ?? "")) };
-}
-
+/** Reads an amount in units with two decimals. */
+export const centsOf = (text) => BigInt(/^(-?\d+)\.(\d\d)$/.exec(text.replace(/[ \u202f]/g, "")).slice(1).join(""));
+export const written = (fields) => `{${Object.entries(fields).map(([key, value]) =>
+  `"${key}":${typeof value === "bigint" ? value : JSON.stringify(value)}`).join(",")}}`;
 /** Writes a table as CSV, with amounts in cents, as the desk itself writes them. */
 export const csvOf = ({ heads, rows }) => [heads, ...rows].map((row) => `${row.join()}\n`).join("");
 
-const centsIn = (line, from, to) => BigInt(line.slice(from, to).trim().replace(".", ""));
-
-/** Reads a day report (SPECIFICATION.md, "Statement and day report") by its columns. */
-export function reportOf(text) {
-  const [first, ...lines] = text.trimEnd().split("\n");
-  const report = { date: first.slice(7), heads: ["bank", "posted", "sent", "received"], rows: [], states: {} };
-  for (const line of lines) {
-    const name = line.slice(0, 10).trim(), many = Number(line.slice(11, 20)), isBank = line.length > 100;
-    if (isBank) report.rows.push([name, centsIn(line, 9, 39), centsIn(line, 40, 70), centsIn(line, 71, 101)]);
-    else if (name === "marks") report.marks = many;
-    else report.states[name] = { count: many, value: centsIn(line, 21, 51) };
-  }
-  return report;
+/** Reads CSV, of which no field has quotes, with these columns and no others. A table has heads, and rows of values. */
+export function tableOf(text, columns) {
+  const [heads, ...lines] = text.replace(/\n$/, "").split("\n").map((it) => it.split(","));
+  if (heads.join(" ") !== columns || lines.some((it) => it.length !== heads.length)) throw new Error("other columns");
+  return { heads, rows: lines.map((line) => line.map((it, i) => valueOf(heads[i], it))) };
 }
 
-/** Reads a statement, which that section describes too, by its columns. */
-export function statementOf(text) {
-  const lines = text.trimEnd().split("\n").slice(1), part = (line, from, to) => line.slice(from, to).trim();
-  const rows = lines.filter((it) => it.length > 50).map((it) => [part(it, 0, 10), Number(part(it, 11, 20)),
-    part(it, 21, 37), part(it, 38, 46), centsIn(it, 47, 67), part(it, 68, 77)]);
-  const sums = lines.slice(rows.length).map((it) => [part(it, 0, 10), centsIn(it, 11, 41)]);
-  return { heads: ["kind", "number", "reference", "other", "amount", "mark"], rows, sums };
+/** Reads a report or a statement, whose fields have no space in them: its table, and the shorter lines behind it. */
+function printedOf(name, text) {
+  const [first, ...lines] = text.trimEnd().split("\n").map((line) => line.split(/ +/)), heads = HEADS[name].split(" ");
+  if (first[0] !== name) throw new Error(`no ${name}`);
+  const rows = lines.filter((it) => it.length === heads.length), sums = lines.filter((it) => it.length < heads.length);
+  const value = (it) => (/\.\d\d$/.test(it) ? centsOf(it) : it);
+  return { date: first.at(-1), heads, rows: rows.map((row) => row.map(value)), sums };
 }
 
-/** Returns the name of a date's weekday, or nothing where the date does not exist. */
-export function weekday(date) {
-  const day = new Date(`${date}T00:00:00Z`);
-  return Number.isNaN(day.valueOf()) || day.toISOString().slice(0, 10) !== date ? "" : DAYS[day.getUTCDay()];
+/** Reads what the desk answers to a request: JSON, CSV, or what it prints as a text. */
+export function answerOf(name, text) {
+  if (name in HEADS) return printedOf(name, text);
+  return (text.startsWith("{") ? read : tableOf)(text, ROUTES[name][3]);
 }
 
-/** Returns how many days one date is after another. */
+/** Returns a date with its weekday before it, if it exists. */
+export function dayOf(date) {
+  const day = new Date(`${date}T00:00:00Z`), isThere = orNothing(() => day.toISOString().startsWith(date));
+  return isThere ? `${day.toLocaleDateString("en", { weekday: "long", timeZone: "UTC" })} ${date}` : date;
+}
+
 export const daysBetween = (from, to) => Math.round((Date.parse(to) - Date.parse(from)) / 86400000);
 export const sum = (rows, name) => rows.reduce((it, row) => it + row[name], 0n);
 export const total = (rows, name) => rows.reduce((it, row) => it + row[name], 0);

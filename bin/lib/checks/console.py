@@ -280,7 +280,6 @@ class Day:
         """What is looked up of dates, and what is saved. It is compared with the program once the desk has ended."""
         date, found = gridlocks.SECOND, {}
         self.page.looks_up("orders", f"Orders of {date}", date=date)
-        self.browser.clicks("#look-states option[value='']")
         found["orders", date] = self.page.saved()
         marks = self.page.looks_up("marks", f"Marks of {date}", date=date)
         found["marks", date] = self.page.saved()
