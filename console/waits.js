@@ -6,7 +6,7 @@ export function payers(queues) {
   return Map.groupBy(pairs, ({ to }) => to);
 }
 
-/** Returns the rings: sets of banks of which the queued orders of each lead, over one bank or several, to each other. */
+/** Returns the rings: sets of banks of which the queued orders of each lead, over one bank or more, to each other. */
 export function rings(queues) {
   const next = new Map(queues.map((it) => [it.code, it.receivers.map(({ to }) => to)]));
   const reached = (code, seen = new Set()) => {

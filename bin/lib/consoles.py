@@ -153,6 +153,10 @@ class Page:
         return self.browser.runs("return [...document.querySelectorAll(arguments[0])].map((row) => "
                                  "[...row.cells].map((it) => it.textContent))", f"{css} tbody tr")
 
+    def texts(self, css):
+        """Returns the texts of elements."""
+        return self.browser.runs("return [...document.querySelectorAll(arguments[0])].map((it) => it.textContent)", css)
+
     def many(self, css):
         """Returns how many elements there are."""
         return self.browser.runs("return document.querySelectorAll(arguments[0]).length", css)

@@ -17,6 +17,7 @@ Cannot show: other browsers, a screen reader, or whether a person finds what is 
 import json
 import os
 import re
+import signal
 import time
 import urllib.parse
 
@@ -28,15 +29,33 @@ PAGE = "the page in a browser"
 PARTS = {PAGE: "chromedriver"}
 NEEDS = ("nginx", "caddy", "openssl")
 FOLDER = f"{kit.TOP}/console"
-# how many lines the page may have in all, without empty ones, comments, and the words of the desk
+# how many lines the page has fewer than, in all its files
 LINES = 1200
-OF_NO_CODE = re.compile(r" *(?://.*|/\*.*|\* .*|\*/|<!--.*-->)?")
 NARROW, WIDE = 390, 1500
 # the height of the part of the page that documents show, and how much smaller it is there
 SHOWN, SCALE = 1040, 0.6
-# the least pause between two requests that nobody asked for, in seconds
-PAUSE = 2
+# the least pause between two requests that nobody asked for, in seconds, and by how much it exceeds the last reply
+PAUSE, SHARE = 2, 10
 SECONDS_WATCHED = 15
+# what has each request take some time longer, and keeps when it began and ended
+SLOW = """window.times = []; const sent = window.fetch;
+    window.fetch = async (...it) => {
+        const time = [performance.now(), Infinity];
+        window.times.push(time);
+        await new Promise((does) => setTimeout(does, 400));
+        return sent(...it).finally(() => { time[1] = performance.now(); });
+    };"""
+# what the page's functions make of amounts beyond 2^53, and which picture of a ring of so many banks is drawn
+EXACT = """const [done] = arguments, at = `${location.origin}/console/`;
+    const ring = (many) => [...Array(many).keys()].map((i) => ({ code: `B${i}`, queued: 1, queued_value: 1n, short: 0n,
+        settling: 1, first: { to: `B${(i + 1) % many}` }, receivers: [{ to: `B${(i + 1) % many}`, queued: 1,
+        queued_value: 1n }] }));
+    Promise.all([import(`${at}values.js`), import(`${at}graph.js`)]).then(([it, { draw }]) => {
+        const svg = document.getElementById("graph").cloneNode(true), cents = it.centsOf("90 071 992 547 409.93");
+        done([it.shown(cents), it.written({ cents: -cents, reference: "P-1" }), it.shown(it.read(
+            '{"balance":-10900000000000001}', "balance").balance), it.csvOf({ heads: ["a"], rows: [[cents]] }),
+            draw(svg, ring(16)), draw(svg, ring(17))]);
+    }, (why) => done([String(why)]));"""
 WAITING = "BETA", "2024-03-08"
 
 
@@ -63,16 +82,11 @@ def words():
     return found
 
 
-def lines_of(text):
-    """Returns how many lines of a file are neither empty nor a comment."""
-    return sum(not OF_NO_CODE.fullmatch(it) for it in text.splitlines())
-
-
 def files(report):
     """The page has no more lines than it may have, its requests are those described, and its words are the desk's."""
     texts = {it: stated.content(f"{FOLDER}/{it}") for it in sorted(os.listdir(FOLDER))}
-    many = sum(lines_of(it) for name, it in texts.items() if name != "refusals.js")
-    report.sees(f"{many} lines of the page, at most {LINES}", many <= LINES, True)
+    many = sum(len(it.splitlines()) for it in texts.values())
+    report.sees(f"{many} lines of the page, fewer than {LINES}", many < LINES, True)
     described = openapi.Description(stated.content(f"{kit.TOP}/docs/openapi.yaml"))
     console_requests.compare(texts["routes.js"], described, report.sees)
     said = re.findall(r"^  (\d+): (\{.*\}),$", texts["refusals.js"], re.M)
@@ -146,6 +160,24 @@ class Day:
         self.page.sees("the queue of ALFA", (rows["ALFA"][1], "EPSI" in rows["ALFA"][6]), ("BETA", True))
         drawn = [self.page.many(f"#graph {it}") for it in (".code", ".arrow.settles", ".arrow.first", ".arrow.later")]
         self.page.sees("banks and arrows of the picture", drawn, [12, 10, 3, 3])
+        pairs = [f"{sender} to {to}: {shown(gridlocks.cents(amount))} in 1" for sender, to, amount in gridlocks.ORDERS]
+        self.page.sees("what the arrows say", sorted(self.page.texts("#graph title")), sorted(pairs))
+        # (while the day is open the floor is minus the credit limit)
+        found = {row[0]: row[4] for row in self.page.rows("#banks-table")}
+        wanted = {code: shown(cents + gridlocks.cents(gridlocks.BANKS[code][2]))
+                  for code, cents in gridlocks.balances().items()}
+        self.page.sees("the headroom of each bank", found, wanted)
+
+    def is_exact(self):
+        """Amounts beyond 2^53 stay whole, and a picture of more than 16 banks is a matrix."""
+        cents = "9007199254740993"
+        wanted = [shown(int(cents)), f'{{"cents":-{cents},"reference":"P-1"}}', shown(-10900000000000001),
+                  f"a\n{cents}\n", "circle", "matrix"]
+        self.page.sees("amounts and pictures", self.browser.waits_for(EXACT), wanted)
+        self.page.command("credit")
+        self.page.fields(code="ALFA", amount="123456789012345.00")
+        self.page.sees("an amount of too many digits", self.page.many("#form [name=amount]:invalid"), 1)
+        self.browser.clicks("#form .cancel")
 
     def looks(self):
         """What the page looks like: wide, narrow, in the dark and on paper."""
@@ -201,15 +233,22 @@ class Day:
         self.served.kill()
         self.page.says("why the figures are stale", "#alarm", "502")
         self.page.sees("the title of a stale page", self.browser.runs("return document.title")[:5], "STALE")
+        self.page.sees("the marks of a stale page", (self.page.many("body.stale"), self.browser.text("#fresh")[:5]),
+                       (1, "STALE"))
         self.picture("stale")
         self.page.command("post", code="KAPPA", way="1", amount="1500000.00", reference="P-100")
         self.browser.clicks("#yes")
         self.page.says("nobody knows whether it acted", "#answer", "It is not known whether the command acted.")
         self.page.sees("what is offered", self.browser.text("#yes"), "Send the same again")
+        # (the dialog can be left, and the command is in the journal)
+        self.browser.clicks("#later")
         self.served.starts()
+        self.browser.clicks("#journal-rows button")
+        self.page.says("the question again", "#says", f"Pay {shown(gridlocks.cents(1500))} into the account of KAPPA")
         self.page.confirms("the same posting again", f"Posted as number {len(gridlocks.BANKS) + 1}.")
         self.page.until("the figures are fresh", lambda: not self.page.is_shown("#alarm"))
         self.page.sees("the title", "STALE" in self.browser.runs("return document.title"), False)
+        self.page.sees("what can be sent again", self.page.many("#journal-rows button"), 0)
 
     def resolves(self):
         """The gridlock is resolved, is gone from the picture, and what was settled can be looked up and saved."""
@@ -232,6 +271,12 @@ class Day:
         """An order file is sent in a bank's name, and an order of it that is held is withdrawn."""
         sender, due = WAITING
         path = f"{folder}/beta.csv"
+        gridlocks.write(path, "reference,to,amount\nB-50,IOTA\n")
+        self.page.command("batch", code=sender, file=path)
+        self.page.says("a file of another form", "#says", "its rows cannot be read by this page")
+        self.browser.clicks("#yes")
+        self.explains("a row of another form", "#answer", 41)
+        self.browser.clicks("#confirm .cancel")
         gridlocks.write(path, f"reference,to,amount,due\nB-50,IOTA,1250,\nB-51,IOTA,777,{due}\nB-52,BETA,5,\n")
         self.page.command("batch", code=sender, file=path)
         name = gridlocks.BANKS[sender][0]
@@ -285,9 +330,12 @@ class Day:
         found["marks", date] = self.page.saved()
         self.page.sees("marks", [row[:2] for row in marks][0][1], str(gridlocks.SETTLING_WITH_KAPPA))
         self.page.looks_up("statement", f"Statement of ALFA, {date}", code="ALFA", date=date)
-        found["statement", "ALFA", date] = self.browser.runs("return document.getElementById('look-text').textContent")
+        found["statement", "ALFA", date] = self.printed("kind,number,reference,other,amount,mark")
         self.page.looks_up("report", f"Report of {gridlocks.FIRST}", date=gridlocks.FIRST)
-        found["report", gridlocks.FIRST] = self.browser.runs("return document.getElementById('look-text').textContent")
+        found["report", gridlocks.FIRST] = text = self.printed("bank,posted,sent,received")
+        self.page.fill("#look-what", "orders")
+        states = [line.split()[0] for line in text.splitlines() if len(line.split()) == 3]
+        self.page.sees("states of orders", self.page.texts("#look-form [name=state] option"), ["all", *states])
         self.page.sees("the day's own figures", "settled 14" in self.browser.text("#figures"), True)
         self.page.looks_up("queue", "Queue of ALFA", code="ALFA")
         self.page.says("an empty queue", "#look-many", "There is none.")
@@ -297,6 +345,15 @@ class Day:
         self.explains("a date that does not exist", "#look-answer", 35)
         return found
 
+    def printed(self, heads):
+        """Returns a text as the desk prints it. Its table is saved with these heads, and with amounts in cents."""
+        text = self.browser.runs("return document.getElementById('look-text').textContent")
+        rows = [line.split() for line in text.splitlines()[1:]]
+        rows = [",".join(re.sub(r"\.(\d\d)$", r"\1", it).lstrip("0") or "0" if "." in it else it for it in row)
+                for row in rows if len(row) == len(heads.split(","))]
+        self.page.sees("the saved table", self.page.saved(), "".join(f"{it}\n" for it in [heads, *rows]))
+        return text
+
     def is_automatic(self):
         """The next day is an automatic one, of which the page tells."""
         self.page.sends("open", "The day is open.", date=gridlocks.THIRD, kind="automatic")
@@ -304,23 +361,34 @@ class Day:
         self.page.until("the journal", lambda: self.page.many("#journal-rows li") > 10)
 
     def pauses(self):
-        """Of what nobody asked for, one request is made at a time, none within two seconds of another."""
+        """Of what nobody asked for, one request is made at a time, none within two seconds of another, and none before
+        ten times has passed what the last reply took."""
         self.browser.runs("performance.clearResourceTimings()")
         time.sleep(SECONDS_WATCHED)
         times = self.browser.runs("return performance.getEntriesByType('resource').map((it) => [it.startTime, "
                                   "it.responseEnd])")
-        pauses = [(after[0] - before[1]) / 1000 for before, after in zip(times, times[1:])]
-        self.page.sees("requests that were watched", len(times) > 3, True)
-        self.page.sees(f"pauses of at least {PAUSE} seconds", [it for it in pauses if it < PAUSE - 0.01], [])
+        self.rests(times, 0)
+        self.browser.runs(SLOW)
+        time.sleep(SECONDS_WATCHED)
+        self.rests(self.browser.runs("return window.times.filter((it) => it[1] !== Infinity)"), SHARE)
+
+    def rests(self, times, share):
+        """The page pauses between requests of these times, in milliseconds."""
+        pauses = [(after[0] - before[1]) / 1000 - max(PAUSE, share * (before[1] - before[0]) / 1000)
+                  for before, after in zip(times, times[1:])]
+        self.page.sees("requests that were watched", len(times) > 2, True)
+        self.page.sees("pauses that are too short", [it for it in pauses if it < -0.02], [])
 
     def locks(self):
         """A page that is locked, or left, has neither key nor figures."""
         whole = self.browser.runs("return document.documentElement.outerHTML")
         self.page.sees("the key in the page", desks.OPERATOR in whole, False)
+        kept = "const { value } = document.getElementById('key'); " \
+               "return [localStorage.length, sessionStorage.length, document.cookie, value]"
+        self.page.sees("what the browser keeps of an open page", self.browser.runs(kept), [0, 0, "", ""])
         self.browser.clicks("#lock")
         self.page.until("a locked page", lambda: not self.page.rows("#banks-table") and self.page.is_shown("#unlock"))
-        stored = self.browser.runs("return [localStorage.length, sessionStorage.length, document.cookie]")
-        self.page.sees("what the browser keeps", stored, [0, 0, ""])
+        self.page.sees("what the browser keeps", self.browser.runs(kept), [0, 0, "", ""])
         self.page.unlock(desks.OPERATOR)
         self.page.until("it is unlocked", lambda: len(self.page.rows("#banks-table")) == len(gridlocks.BANKS))
         self.browser.does("refresh")
@@ -332,6 +400,7 @@ class Day:
         self.wrong_key()
         self.opens()
         self.sees_the_gridlock()
+        self.is_exact()
         self.looks()
         self.by_the_keyboard()
         self.close_is_refused()
@@ -354,6 +423,8 @@ def requests(browser, url, report):
         path = urllib.parse.urlsplit(address).path
         value = json.loads(body) if body and body.startswith("{") else None
         report.sees(f"{url}: {method} {path} {body}", console_requests.faults(described, method, path, value), [])
+    first, again = [body for _, address, body in made if address.endswith("/desk/post")][:2]
+    report.sees(f"{url}: the posting that was not answered, sent again", again, first)
     return len(made)
 
 
@@ -396,6 +467,11 @@ def crowd(given, report):
             page.sees("cells of the matrix", page.many("#graph .cell.settles"), many * (many - 1))
             Day(page, served, given.pictures).picture("matrix")
             share = share_of_time(served.desk())
+            os.kill(served.desk(), signal.SIGSTOP)
+            page.until("figures that are too old", lambda: page.many("body.stale") == 1)
+            page.says("why", "#alarm", "A reply is awaited.")
+            os.kill(served.desk(), signal.SIGCONT)
+            page.until("figures that are new", lambda: page.many("body.stale") == 0)
     report.finds(f"{many} banks with {many * (many - 1)} orders: seen; meanwhile the desk used a processor for "
                  f"{share:.2%} of the time")
     report.sees("a share below a tenth", share < 0.1, True)

@@ -153,7 +153,7 @@ class Page(unittest.TestCase):
         for name in os.listdir(PAGE):
             text = stated.content(f"{PAGE}/{name}")
             for word in ("innerHTML", "insertAdjacentHTML", "document.write", "eval(", "localStorage", "sessionStorage",
-                         "document.cookie", "style=", "onclick=", "http://", "https://"):
+                         "document.cookie", "style=", "onclick=", "http://", "https://", "parseFloat", "toFixed"):
                 self.assertNotIn(word, text.replace("http://www.w3.org/2000/svg", ""), name)
 
     def test_the_words_are_those_that_the_program_is_made_of(self):
@@ -168,9 +168,6 @@ class Page(unittest.TestCase):
             for name, value in fields.items():
                 quoted = f'"{value}"' if " " in value else value
                 self.assertIn(form.format(name, quoted), kind.deployed(), name)
-
-    def test_lines_of_the_page_are_counted_without_what_is_said_of_them(self):
-        self.assertEqual(console.lines_of("// a\n/** b\n * c */\nd;\n\n  e { f } /* g */\n<!-- h -->\n<p>\n"), 3)
 
 
 class Sites(unittest.TestCase):
