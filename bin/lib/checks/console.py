@@ -45,6 +45,16 @@ SLOW = """window.times = []; const sent = window.fetch;
         await new Promise((does) => setTimeout(does, 400));
         return sent(...it).finally(() => { time[1] = performance.now(); });
     };"""
+# from which bank to which each arrow of the picture goes, with its title, and what is said of each bank
+DRAWN = """const at = (x, y) => `${Math.round(x)} ${Math.round(y)}`, all = (css) => [...document.querySelectorAll(css)];
+    const said = new Map(all("#graph .node").map((it) => {
+        const { x, y, width, height } = it.getBBox(), code = it.nextElementSibling;
+        return [at(x + width / 2, y + height / 2), [code.textContent, code.nextElementSibling.textContent]];
+    }));
+    return [all("#graph .arrow").map((it) => {
+        const ends = [0, it.getTotalLength()].map((far) => it.getPointAtLength(far)).map(({ x, y }) => at(x, y));
+        return `${ends.map((it) => said.get(it)?.[0]).join(" to ")}: ${it.textContent.split(": ")[0]}`;
+    }), [...said.values()]];"""
 # what the page's functions make of amounts beyond 2^53, and which picture of a ring of so many banks is drawn
 EXACT = """const [done] = arguments, at = `${location.origin}/console/`;
     const ring = (many) => [...Array(many).keys()].map((i) => ({ code: `B${i}`, queued: 1, queued_value: 1n, short: 0n,
@@ -162,6 +172,11 @@ class Day:
         self.page.sees("banks and arrows of the picture", drawn, [12, 10, 3, 3])
         pairs = [f"{sender} to {to}: {shown(gridlocks.cents(amount))} in 1" for sender, to, amount in gridlocks.ORDERS]
         self.page.sees("what the arrows say", sorted(self.page.texts("#graph title")), sorted(pairs))
+        arrows, said = self.browser.runs(DRAWN)
+        self.page.sees("arrows between other banks", [it for it in arrows if len(set(it.split(": "))) > 1], [])
+        said = {code: it for code, it in said if code in ("ALFA", "KAPPA", "OMEGA")}
+        wanted = {"ALFA": "settles 2 of 2", "KAPPA": f"short {shown(gridlocks.cents(1500))}", "OMEGA": "no queue"}
+        self.page.sees("what is said of banks", said, wanted)
         # (while the day is open the floor is minus the credit limit)
         found = {row[0]: row[4] for row in self.page.rows("#banks-table")}
         wanted = {code: shown(cents + gridlocks.cents(gridlocks.BANKS[code][2]))
@@ -178,6 +193,10 @@ class Day:
         self.page.fields(code="ALFA", amount="123456789012345.00")
         self.page.sees("an amount of too many digits", self.page.many("#form [name=amount]:invalid"), 1)
         self.browser.clicks("#form .cancel")
+        self.page.command("post", code="OMEGA", way="-1", amount="1 234.50", reference="P-90")
+        self.page.says("money is taken out", "#says", "Take 1\u202f234.50 out of the account of OMEGA")
+        self.page.says("what is sent", "#wire", '{"cents":-123450,"code":"OMEGA","reference":"P-90"}')
+        self.browser.clicks("#confirm .cancel")
 
     def looks(self):
         """What the page looks like: wide, narrow, in the dark and on paper."""
@@ -237,6 +256,7 @@ class Day:
                        (1, "STALE"))
         self.picture("stale")
         self.page.command("post", code="KAPPA", way="1", amount="1500000.00", reference="P-100")
+        self.page.says("old figures are warned of", "#warns", "The figures of this page are")
         self.browser.clicks("#yes")
         self.page.says("nobody knows whether it acted", "#answer", "It is not known whether the command acted.")
         self.page.sees("what is offered", self.browser.text("#yes"), "Send the same again")
