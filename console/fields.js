@@ -6,12 +6,12 @@ const banks = () => (readings.accounts?.data.accounts ?? []).map(({ code, name }
 /** By name: the label, and what there is to choose from, or the attributes of what is typed. */
 const FIELDS = {
   code: ["Bank", () => [["", "choose…"], ...banks()]],
-  date: ["Date", { pattern: "2[0-9]{3}-[0-9]{2}-[0-9]{2}", title: "YYYY-MM-DD" }],
+  date: ["Date", { pattern: "2[0-9]{3}-[0-9]{2}-[0-9]{2}", title: "YYYY-MM-DD", placeholder: "YYYY-MM-DD" }],
   reference: ["Reference", { pattern: "[A-Z0-9\\-]{1,16}", title: "1 to 16 capital letters, digits or hyphens" }],
   state: ["Show", () => ["all", "settled", "queued", "held", "withdrawn", "rejected"].map((it) => [it, it])],
   way: ["Direction", () => [["1", "pay in (credit the account)"], ["-1", "take out (debit the account)"]]],
   amount: ["Amount", { pattern: "([0-9][ \\u202f]?){1,14}[.][0-9]{2}", inputmode: "decimal",
-    title: "units and two decimals, such as 1234.50" }],
+    title: "units and two decimals, such as 1234.50", placeholder: "units, such as 1234.50" }],
   kind: ["Kind of day", () =>
     [["plain", "plain: queues wait for resolve"], ["automatic", "automatic: a resolution follows each command"]]],
   file: ["Order file", { type: "file", accept: ".csv,text/csv" }],

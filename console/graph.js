@@ -54,8 +54,8 @@ function node(code, { x, y, cos, sin }, it) {
 
 function circle(found, queues, pairs) {
   const by = new Map(queues.map((it) => [it.code, it])), places = new Map();
-  // (a place is left free behind each group)
-  found.flatMap((codes) => [...codes, ""]).forEach((code, i, { length }) => {
+  // (a place is left free behind each of several groups)
+  found.flatMap((codes) => [...codes, ...(found[1] ? [""] : [])]).forEach((code, i, { length }) => {
     const angle = (2 * Math.PI * i) / length - Math.PI / 2, [cos, sin] = [Math.cos(angle), Math.sin(angle)];
     places.set(code, { x: WIDTH / 2 + cos * (WIDTH / 2 - 145), y: HEIGHT / 2 + sin * (HEIGHT / 2 - 58), cos, sin });
   });
