@@ -34,7 +34,7 @@ function offer(values) {
   offerFields($("look-fields"), names, { date: readings.accounts?.data.date, ...values });
 }
 
-/** Offers the fields anew where the business date is another, or a bank is, unless the operator is typing. */
+/** Offers the fields again where the business date is another, or a bank is, unless the operator is typing. */
 export function renew({ date, accounts } = { accounts: [] }) {
   const now = `${date} ${accounts.length}`;
   if (now === offered || $("look-fields").contains(document.activeElement)) return;

@@ -15,7 +15,8 @@ MANY = 100000
 HELD = """\
 #!/bin/sh
 while [ -e {folder}/held ]; do sleep 0.05; done
-echo "$4" > {folder}/port
+echo "$4" > {folder}/port.new
+mv {folder}/port.new {folder}/port
 exec {desk} "$@"
 """
 

@@ -55,7 +55,7 @@ DRAWN = """const at = (x, y) => `${Math.round(x)} ${Math.round(y)}`, all = (css)
         const ends = [0, it.getTotalLength()].map((far) => it.getPointAtLength(far)).map(({ x, y }) => at(x, y));
         return `${ends.map((it) => said.get(it)?.[0]).join(" to ")}: ${it.textContent.split(": ")[0]}`;
     }), [...said.values()]];"""
-# what the page's functions make of amounts beyond 2^53, and which picture of a ring of so many banks is drawn
+# what the page's functions make of amounts beyond 2^53, and which picture of a ring of 16 or 17 banks is drawn
 EXACT = """const [done] = arguments, at = `${location.origin}/console/`;
     const ring = (many) => [...Array(many).keys()].map((i) => ({ code: `B${i}`, queued: 1, queued_value: 1n, short: 0n,
         settling: 1, first: { to: `B${(i + 1) % many}` }, receivers: [{ to: `B${(i + 1) % many}`, queued: 1,
