@@ -130,12 +130,19 @@ class Day:
             self.browser.picture(f"{self.pictures}/{name}.png")
         self.browser.of_chromium("Emulation.clearDeviceMetricsOverride")
 
+    def keeps_nothing(self):
+        """The browser keeps no key: in no store, no cookie, and not in the field in which it was typed."""
+        kept = self.browser.runs("const { value } = document.getElementById('key'); "
+                                 "return [localStorage.length, sessionStorage.length, document.cookie, value]")
+        self.page.sees("what the browser keeps", kept, [0, 0, "", ""])
+
     def wrong_key(self):
         """A wrong key is refused in words, and the right one shows the book."""
         self.page.unlock("0" * 32)
         self.explains("a wrong key", "#locked", 68)
         self.page.unlock(desks.OPERATOR)
         self.page.until("all banks", lambda: len(self.page.rows("#banks-table")) == len(gridlocks.BANKS))
+        self.keeps_nothing()
         found = {row[0]: row[2:5] for row in self.page.rows("#banks-table")}
         for code, cents in gridlocks.balances().items():
             credit = gridlocks.cents(gridlocks.BANKS[code][2])
@@ -403,12 +410,10 @@ class Day:
         """A page that is locked, or left, has neither key nor figures."""
         whole = self.browser.runs("return document.documentElement.outerHTML")
         self.page.sees("the key in the page", desks.OPERATOR in whole, False)
-        kept = "const { value } = document.getElementById('key'); " \
-               "return [localStorage.length, sessionStorage.length, document.cookie, value]"
-        self.page.sees("what the browser keeps of an open page", self.browser.runs(kept), [0, 0, "", ""])
+        self.keeps_nothing()
         self.browser.clicks("#lock")
         self.page.until("a locked page", lambda: not self.page.rows("#banks-table") and self.page.is_shown("#unlock"))
-        self.page.sees("what the browser keeps", self.browser.runs(kept), [0, 0, "", ""])
+        self.keeps_nothing()
         self.page.unlock(desks.OPERATOR)
         self.page.until("it is unlocked", lambda: len(self.page.rows("#banks-table")) == len(gridlocks.BANKS))
         self.browser.does("refresh")
