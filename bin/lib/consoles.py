@@ -185,10 +185,11 @@ class Page:
             self.browser.types(css, value)
 
     def command(self, name, **fields):
-        """Begins a command, and goes on to its question."""
+        """Begins a command, and goes on to its question. Nothing is sent before it."""
         self.browser.clicks(f"[data-command={name}]")
         if fields:
             self.fields(**fields)
+        self.sees(f"what is told before {name} is sent", self.browser.text("#answer"), "")
 
     def sends(self, name, said, **fields):
         """Gives a command, which is done."""
