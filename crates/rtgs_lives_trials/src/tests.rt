@@ -1,0 +1,2 @@
+//! Two sessions with a desk: in memory, and over two disks of which one fails.
+mod lives;
