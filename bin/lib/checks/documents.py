@@ -357,7 +357,7 @@ def columns_as_shown(text, sees):
 
 
 def versions(sees):
-    """Each document that names the program's version, or its kit, names what the program itself says."""
+    """Each document that names the program's version, or its logic, names what the program itself says."""
     program, tables_are, kit_is = stated.version()
     sees("the version of the tables that the program tells", tables_are, str(stated.constants()["version"]))
     newest = re.search(r"^## (.*)$", read("CHANGELOG.md"), re.M)
@@ -373,7 +373,8 @@ def versions(sees):
     titled = re.findall(r'^\.TH .*"(\S*)" "User Commands"$', read(MAN_PAGE), re.M)
     sees(f"the version of {MAN_PAGE}", titled, ["@VERSION@"])
     for name in ("README.md", AUDITORS):
-        sees(f"kits that {name} names", set(re.findall(r"`(rattle-kit-[^`]*)`", read(name))), {kit_is})
+        named = set(re.findall(r"`(logic [^`]*)`", read(name)))
+        sees(f"logics that {name} names", named, {kit_is[kit_is.find("logic "):]})
 
 
 def made_tables(sees):

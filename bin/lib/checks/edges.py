@@ -117,7 +117,7 @@ READINGS = ["account @ ALFA", "accounts @", "queue @ ALFA", "order @ ALFA A-1", 
 EACH = [*migrations.OTHERS, "migrate @", "init @"]
 MISUSED = ["", "pay @", "init", "post @ ALFA P-9", "init --unknown", "explain 21", SERVE.format(0),
            *(f"{it} more" for it in EACH if not it.startswith("serve"))]
-VERSION = r"desk \d+\.\d+\.\d+, tables \d+, {}, commit (\$Format:%H\$|[0-9a-f]{{40}})\n"
+VERSION = r"desk \d+\.\d+\.\d+, tables \d+, rattle-kit-\w+ {}, commit (\$Format:%H\$|[0-9a-f]{{40}})\n"
 # names that begin and end with a space, and runs over a book with such a name
 SPACED, ORDERS = f" {BOOK} ", " alfa.csv "
 OF_SPACED = [
@@ -339,7 +339,7 @@ def helps(edges):
     """Help and the version, and words that are no command line."""
     commands = {it.split(" ")[0] for it in EACH} | {"explain"}
     edges.prints("--help")
-    version = VERSION.format(re.escape(kit.version()))
+    version = VERSION.format(re.escape(kit.logic()))
     edges.sees("--version", bool(re.fullmatch(version, edges.prints("--version"))), True)
     for line in ("{} --help", "help {}"):
         texts = {edges.prints(line.format(it)) for it in commands}

@@ -240,7 +240,7 @@ class Documents(unittest.TestCase):
                                 (documents.RELEASE, r"TABLES_VERSION: u64 = \d", f"versions in {documents.RELEASE}"),
                                 ("docs/OPERATORS.md", r"(?m)^    desk \d", "versions that docs/OPERATORS.md shows"),
                                 ("docs/desk.1.in", "@VERSION@", "the version of docs/desk.1.in"),
-                                ("README.md", "`rattle-kit-", "kits that README.md names")):
+                                ("README.md", "`logic ", "logics that README.md names")):
             changed = re.sub(old, lambda m: f"{m[0]}9", stated.content(f"{documents.kit.TOP}/{name}"), count=1)
             real = documents.read
             found = self.found(documents.versions, read=lambda it, name=name, changed=changed, real=real:

@@ -75,11 +75,11 @@ class LongOrders(unittest.TestCase):
 
 
 class Version(unittest.TestCase):
-    def test_the_version_names_the_kit_at_hand_and_a_commit(self):
-        version = edges.VERSION.format(re.escape("kit-1f logic (0)"))
+    def test_the_version_names_a_kit_with_the_logic_at_hand_and_a_commit(self):
+        version, kit = edges.VERSION.format(re.escape("logic (0)")), "rattle-kit-1f"
         for commit in ("$Format:%H$", "0a" * 20):
-            self.assertTrue(re.fullmatch(version, f"desk 0.13.0, tables 3, kit-1f logic (0), commit {commit}\n"))
-        for said in ("kit-1f logic (1), commit $Format:%H$", "kit-1f logic (0), commit 0a", "not proved, commit 0a"):
+            self.assertTrue(re.fullmatch(version, f"desk 0.13.0, tables 3, {kit} logic (0), commit {commit}\n"))
+        for said in (f"{kit} logic (1), commit $Format:%H$", f"{kit} logic (0), commit 0a", "not proved, commit 0a"):
             self.assertFalse(re.fullmatch(version, f"desk 0.13.0, tables 3, {said}\n"), said)
 
 
